@@ -1,0 +1,4 @@
+pub mod Bytes
+pub mod Eight
+pub mod Parts
+pub mod Values

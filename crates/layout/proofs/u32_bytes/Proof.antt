@@ -1,0 +1,25 @@
+-- The definition, byte by byte.
+use mathlib.Core.Path.{refl}
+use Rattle.layout.specs.Bytes.{bytes4}
+use borrow.Author.Needs.{needs}
+use Rattle.layout.proofs.u32_bytes.Statement.{statement}
+use Rattle.layout.proofs.u32_bytes.Tie as tie
+
+cast-t3 : tie.Need-cast-t3
+cast-t3 c = search needs
+
+cast-t6 : tie.Need-cast-t6
+cast-t6 c = search needs
+
+cast-t9 : tie.Need-cast-t9
+cast-t9 c = search needs
+
+cast-t11 : tie.Need-cast-t11
+cast-t11 c = search needs
+
+returns : tie.Need-returns
+unfolding bytes4
+returns c = refl
+
+pub u32-bytes-spec : {M : Type 1} → statement M
+u32-bytes-spec = tie.close (tie.spec cast-t3 cast-t6 cast-t9 cast-t11 returns)

@@ -1,0 +1,88 @@
+// The layouts' numbers, read from bytes at every place, with zeros past the end, and as bytes. What
+// these numbers and the parts of a byte string are, and the laws of both, stands in specs/ and proofs/.
+ghost use mathlib.Core.Path.{_≡_};
+ghost use Prim.Native.Nat.{_+_, _*_, _≤_};
+ghost use lib.ListN.{getD};
+ghost use Rattle.layout.specs.Bytes.{four, eight, bytes4, bytes8};
+
+// The byte k places behind another; 0 past the end.
+fn behind(b: &[u8], at: usize, k: usize) -> u8
+    ensures { λ r. ⌜ r ≡ getD (now (b .entry)) (at + k) 0 ⌝ }
+{
+    if b.len() <= at {
+        return 0;
+    }
+    if b.len() - at <= k {
+        return 0;
+    }
+    b[at + k]
+}
+
+// The byte at a place; 0 past the end.
+pub fn byte_at(b: &[u8], at: usize) -> u8
+    ensures { λ r. ⌜ r ≡ getD (now (b .entry)) at 0 ⌝ }
+{
+    behind(b, at, 0)
+}
+
+// The number whose big-endian bytes these are.
+fn join(a: u8, b: u8, c: u8, d: u8) -> u32
+    ensures { λ r. ⌜ r ≡ a * 16777216 + b * 65536 + c * 256 + d ⌝ }
+{
+    (a as u32) * 16777216 + (b as u32) * 65536 + (c as u32) * 256 + (d as u32)
+}
+
+// The number in the four bytes k places behind another.
+fn quad(b: &[u8], at: usize, k: usize) -> u32
+    requires { ⌜ k ≤ 4 ⌝ }
+    ensures { λ r. ⌜ r ≡ four (now (b .entry)) (at + k) ⌝ }
+{
+    join(
+        behind(b, at, k),
+        behind(b, at, k + 1),
+        behind(b, at, k + 2),
+        behind(b, at, k + 3),
+    )
+}
+
+// The number in the four bytes at a place.
+pub fn u32_at(b: &[u8], at: usize) -> u32
+    ensures { λ r. ⌜ r ≡ four (now (b .entry)) at ⌝ }
+{
+    quad(b, at, 0)
+}
+
+// The number of these two halves.
+fn pair(high: u32, low: u32) -> u64
+    ensures { λ r. ⌜ r ≡ high * 4294967296 + low ⌝ }
+{
+    (high as u64) * 4294967296 + (low as u64)
+}
+
+// The number in the eight bytes at a place.
+pub fn u64_at(b: &[u8], at: usize) -> u64
+    ensures { λ r. ⌜ r ≡ eight (now (b .entry)) at ⌝ }
+{
+    pair(quad(b, at, 0), quad(b, at, 4))
+}
+
+// The four bytes of a number.
+pub fn u32_bytes(x: u32) -> [u8; 4]
+    ensures { λ r. ⌜ r ≡ bytes4 x ⌝ }
+{
+    [
+        (x / 16777216) as u8,
+        (x / 65536 % 256) as u8,
+        (x / 256 % 256) as u8,
+        (x % 256) as u8,
+    ]
+}
+
+// The eight bytes of a number.
+pub fn u64_bytes(x: u64) -> [u8; 8]
+    ensures { λ r. ⌜ r ≡ bytes8 x ⌝ }
+{
+    let h = u32_bytes((x / 4294967296) as u32);
+    let l = u32_bytes((x % 4294967296) as u32);
+    [h[0], h[1], h[2], h[3], l[0], l[1], l[2], l[3]]
+}

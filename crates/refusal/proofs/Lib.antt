@@ -1,0 +1,6 @@
+pub mod Order
+pub mod Means
+pub mod Numbered
+pub mod Match
+pub mod Stage
+pub mod Words

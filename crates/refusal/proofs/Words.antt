@@ -1,0 +1,29 @@
+-- Laws of answers as one number.
+use Prim.Native.Nat.{ℕ}
+use mathlib.Core.Path.{_≡_, refl, ap, _∙_}
+use native.Mathlib.Omega.{arith}
+use Rattle.refusal.specs.Answer.{Answer}
+use Rattle.refusal.specs.Result.{Gives}
+use Rattle.refusal.specs.Refusal.{refusal, checked, said}
+use Rattle.refusal.specs.Word.{answerWord, plainWord, WordsTell}
+use Rattle.refusal.specs.declared.Check.{Check}
+use Rattle.refusal.specs.declared.Check.the-variants.{Passed, Refused}
+use Rattle.refusal.specs.declared.Refusal.{Refusal}
+use Rattle.refusal.proofs.Numbered.{numbered}
+
+pub words-tell : WordsTell
+words-tell n p q hn hp hq = (omega arith, omega arith, omega arith)
+
+-- A refusal's number does not depend on the result that it refuses.
+pub word-refusal : (A : Type 0) {B : Type 0} (r : Refusal) (f g : B → ℕ) → plainWord {A = A} (refusal r) ≡ answerWord {A = B} f g (refusal r)
+word-refusal A {B} r f g = let n = numbered r in rw (n .3 A, n .3 B)
+
+word-checked : {A : Type 0} (a : A) (c : Check) → plainWord (said c) ≡ plainWord (checked a c)
+word-checked a Passed = refl
+word-checked a (Refused r) = word-refusal Unit r (λ b. 0) (λ b. 0)
+
+-- A check's number is that of the call's answer.
+pub gives-word :
+    {A : Type 0} {due : Answer A} {before after : A} {c : Check} {w : ℕ} → Gives due before after c → w ≡ plainWord (said c) →
+    w ≡ plainWord due
+gives-word {after} {c} g e = e ∙ (word-checked after c ∙ ap plainWord (g .answers))

@@ -1,0 +1,80 @@
+// Refusals: why a call gives no result. One variant for each number that the layouts' paper
+// fixes, holding the positions that the paper names for it. What number and which positions
+// a variant stands for is said once, in specs/Refusal.antt, and every contract cites that.
+//
+// Numbers 13 to 19 are kept for what is planned above this base.
+ghost use mathlib.Core.Path.{_≡_};
+ghost use Rattle.refusal.specs.Refusal.{refusal, said};
+ghost use Rattle.refusal.specs.Word.{word as wordOf, plainWord};
+
+// The refusals, in the order of their numbers, 1 to 12.
+pub enum Refusal {
+    // 1: the number of users is not 1 to 16, or the user is not below it.
+    Users,
+    // 2: a length is not the stated one.
+    Length(usize),
+    // 3: a record, the order of owners, a block or an inode is not well formed.
+    Malformed(usize),
+    // 4: a signature mark is not 1.
+    Unsigned(usize),
+    // 5: the own version is not the current one.
+    NotCurrent,
+    // 6: the own version number is the last there is.
+    LastVersion,
+    // 7: two version structures are not ordered.
+    Unordered(usize, usize),
+    // 8: a hash is not the expected one.
+    WrongHash(usize),
+    // 9: a path is too short or too long.
+    PathLength(usize),
+    // 10: the file has no such block.
+    NoBlock,
+    // 11: an i-number is not above the one before.
+    NotAscending(usize),
+    // 12: the buffer is shorter than what is to be written.
+    NoRoom,
+}
+
+// The answer of a call whose result is in a lent buffer, and of each stage of a longer one.
+pub enum Check {
+    Passed,
+    Refused(Refusal),
+}
+
+// An answer as one number, for callers in C: a refusal's number, or 0, and two positions or results.
+// A position is taken modulo 2^24, a second one modulo 2^32; no call has any as large.
+pub fn word(number: u8, first: usize, second: usize) -> u64
+    ensures { λ r. ⌜ r ≡ wordOf number first second ⌝ }
+{
+    number as u64 + 256 * (first as u64 % 16777216) + 4294967296 * (second as u64 % 4294967296)
+}
+
+// A refusal as such a number.
+pub fn refusal_word(r: Refusal) -> u64
+    ensures { λ w. ⌜ w ≡ plainWord {A = Unit} (refusal r) ⌝ }
+{
+    match r {
+        Refusal::Users => word(1, 0, 0),
+        Refusal::Length(p) => word(2, p, 0),
+        Refusal::Malformed(p) => word(3, p, 0),
+        Refusal::Unsigned(p) => word(4, p, 0),
+        Refusal::NotCurrent => word(5, 0, 0),
+        Refusal::LastVersion => word(6, 0, 0),
+        Refusal::Unordered(p, q) => word(7, p, q),
+        Refusal::WrongHash(p) => word(8, p, 0),
+        Refusal::PathLength(p) => word(9, p, 0),
+        Refusal::NoBlock => word(10, 0, 0),
+        Refusal::NotAscending(p) => word(11, p, 0),
+        Refusal::NoRoom => word(12, 0, 0),
+    }
+}
+
+// A check's answer as such a number.
+pub fn check_word(c: Check) -> u64
+    ensures { λ w. ⌜ w ≡ plainWord (said c) ⌝ }
+{
+    match c {
+        Check::Passed => 0,
+        Check::Refused(r) => refusal_word(r),
+    }
+}

@@ -1,0 +1,4 @@
+pub mod Bool
+pub mod Search
+pub mod Pairs
+pub mod First

@@ -1,0 +1,137 @@
+-- Laws of the searches: a search is fixed by what it finds, and a test over all places by each of them.
+use Prim.Native.Nat.{ℕ, zero, suc, _+_, _≤_, _<_}
+use mathlib.Core.Bool.{Bool, true, false, not}
+use mathlib.Core.List.{List, [], _∷_}
+use mathlib.Core.Logic.{⊎-elim}
+use mathlib.Core.Path.{_≡_, refl, sym, subst, ap, ap₂, _∙_}
+use native.Mathlib.Decide.{decLt}
+use native.Mathlib.Nat.{eq-or-lt-of-le}
+use native.Mathlib.Omega.{arith}
+use lib.Dec.{eqb}
+use borrow.Author.Tests.{eqb-true, eqb-false, eq-eqb, not-true, not-false}
+use Rattle.search.specs.Search.{find, every, same}
+use Rattle.search.proofs.Bool.{not-both, bool-cases}
+
+-- r is the first place from i on at which p holds, or i + k.
+pub record Found (p : ℕ → Bool) (i k r : ℕ) : Type 0 where
+  pub from : i ≤ r
+  pub within : r ≤ i + k
+  pub before : (j : ℕ) → i ≤ j → j < r → p j ≡ false
+  pub hit : r < i + k → p r ≡ true
+
+found-step :
+    (p : ℕ → Bool) (i k : ℕ) (b : Bool) → p i ≡ b → Found p (suc i) k (find p (suc i) k) →
+    Found p i (suc k) (elim b [ true ↦ i | false ↦ find p (suc i) k ])
+found-step p i k true e f =
+    record { from = omega arith; within = omega arith; before = λ j h l. absurd (omega arith); hit = λ _. e }
+found-step p i k false e f =
+    record {
+      from = omega arith;
+      within = omega arith;
+      before = λ j h l. ⊎-elim (λ q. rw (← q) e) (λ q. f .before j q l) (eq-or-lt-of-le {n = i} {m = j} h);
+      hit = λ h. f .hit (omega arith);
+    }
+
+pub found : (p : ℕ → Bool) (i k : ℕ) → Found p i k (find p i k)
+unfolding find
+found p i zero =
+    record { from = omega arith; within = omega arith; before = λ j h l. absurd (omega arith); hit = λ h. absurd (omega arith) }
+found p i (suc k) = found-step p i k (p i) refl (found p (suc i) k)
+
+-- A place with the properties of the first one is the first one.
+pub found-unique : {p : ℕ → Bool} {i k r s : ℕ} → Found p i k r → Found p i k s → r ≡ s
+found-unique {p} {i} {k} {r} {s} f g =
+    elim (decLt r s) [
+      | yes lt ↦ absurd (not-both (f .hit (omega (arith, g .within))) (g .before r (f .from) lt))
+      | no ge ↦
+          ⊎-elim (λ e. sym e) (λ lt. absurd (not-both (g .hit (omega (arith, f .within))) (f .before s (g .from) lt)))
+          (eq-or-lt-of-le {n = s} {m = r} (omega arith))
+    ]
+
+-- The search finds r, where p holds and nowhere before.
+pub find-at :
+    (p : ℕ → Bool) (i k r : ℕ) → i ≤ r → r < i + k → ((j : ℕ) → i ≤ j → j < r → p j ≡ false) → p r ≡ true → find p i k ≡ r
+find-at p i k r h l b e =
+    found-unique (found p i k) (record { from = h; within = omega arith; before = b; hit = λ _. e })
+
+-- The search finds nothing.
+pub find-none : (p : ℕ → Bool) (i k : ℕ) → ((j : ℕ) → i ≤ j → j < i + k → p j ≡ false) → find p i k ≡ i + k
+find-none p i k b =
+    found-unique (found p i k)
+    (record { from = omega arith; within = omega arith; before = b; hit = λ h. absurd (omega arith) })
+
+-- The same, of a search from place 0.
+module _ (p : ℕ → Bool) (k : ℕ) where
+  pub find-first : (r : ℕ) → r < k → ((j : ℕ) → 0 ≤ j → j < r → p j ≡ false) → p r ≡ true → find p 0 k ≡ r
+  find-first r l b e = find-at p 0 k r (omega arith) (omega arith) b e
+
+  pub find-last : ((j : ℕ) → 0 ≤ j → j < k → p j ≡ false) → find p 0 k ≡ k
+  find-last b = let z : 0 + k ≡ k = omega arith in find-none p 0 k (λ j a l. b j a (omega arith)) ∙ z
+
+-- Tests that agree at each place find the same.
+pub find-cong : (p q : ℕ → Bool) (i k : ℕ) → ((j : ℕ) → i ≤ j → j < i + k → p j ≡ q j) → find p i k ≡ find q i k
+find-cong p q i k e =
+    let f : Found p i k (find p i k) = found p i k in
+    found-unique f
+    (let g : Found q i k (find q i k) = found q i k in
+    record {
+      from = g .from;
+      within = g .within;
+      before = λ j h l. e j h (omega (arith, g .within)) ∙ g .before j h l;
+      hit = λ h. e _ (g .from) h ∙ g .hit h;
+    })
+
+pub every-intro : (p : ℕ → Bool) (i k : ℕ) → ((j : ℕ) → i ≤ j → j < i + k → p j ≡ true) → every p i k ≡ true
+unfolding every
+every-intro p i k h =
+    eq-eqb _ _ (find-none (λ v. not (p v)) i k (λ j a b. ap not (h j a b)))
+
+pub every-at : (p : ℕ → Bool) (i k : ℕ) → every p i k ≡ true → (j : ℕ) → i ≤ j → j < i + k → p j ≡ true
+unfolding every
+every-at p i k e j h l =
+    let f : Found (λ v. not (p v)) i k (find (λ v. not (p v)) i k) = found (λ v. not (p v)) i k in
+    let q : find (λ v. not (p v)) i k ≡ i + k = eqb-true _ _ e in not-false (p j) (f .before j h (omega arith))
+
+-- A place at which p fails.
+pub every-fails : (p : ℕ → Bool) (i k j : ℕ) → i ≤ j → j < i + k → p j ≡ false → every p i k ≡ false
+every-fails p i k j h l e = ⊎-elim (λ t. absurd (not-both (every-at p i k t j h l) e)) (λ f. f) (bool-cases (every p i k))
+
+-- Where p does not hold everywhere, the first place at which it fails.
+pub first-failure : (p : ℕ → Bool) (i k : ℕ) → every p i k ≡ false → (find (λ v. not (p v)) i k < i + k) × (p (find (λ v. not (p v)) i k) ≡ false)
+unfolding every
+first-failure p i k e =
+    let f : Found (λ v. not (p v)) i k (find (λ v. not (p v)) i k) = found (λ v. not (p v)) i k in
+    let ne : find (λ v. not (p v)) i k ≡ i + k → ⊥ = eqb-false _ _ e in
+    let l : find (λ v. not (p v)) i k < i + k = ⊎-elim (λ q. absurd (ne q)) (λ q. q) (eq-or-lt-of-le (f .within)) in
+    (l, not-true (p (find (λ v. not (p v)) i k)) (f .hit l))
+
+pub every-cong : (p q : ℕ → Bool) (i k : ℕ) → ((j : ℕ) → i ≤ j → j < i + k → p j ≡ q j) → every p i k ≡ every q i k
+unfolding every
+every-cong p q i k e = ap (λ r. eqb r (i + k)) (find-cong (λ v. not (p v)) (λ v. not (q v)) i k (λ j h l. ap not (e j h l)))
+
+pub same-refl : (xs : List ℕ) → same xs xs ≡ true
+unfolding same
+same-refl [] = refl
+same-refl (x ∷ xs) = rw (eq-eqb x x refl, same) (same-refl xs)
+
+same-step : (x y : ℕ) (xs ys : List ℕ) (b : Bool) → eqb x y ≡ b → (same xs ys ≡ true → xs ≡ ys) → elim b [ true ↦ same xs ys | false ↦ false ] ≡ true → x ∷ xs ≡ y ∷ ys
+same-step x y xs ys true e ih h = ap₂ _∷_ (eqb-true x y e) (ih h)
+same-step x y xs ys false e ih h = absurd (not-both h refl)
+
+pub same-true : (xs ys : List ℕ) → same xs ys ≡ true → xs ≡ ys
+unfolding same
+same-true [] [] h = refl
+same-true [] (y ∷ ys) h = absurd (not-both h refl)
+same-true (x ∷ xs) [] h = absurd (not-both h refl)
+same-true (x ∷ xs) (y ∷ ys) h = same-step x y xs ys (eqb x y) refl (same-true xs ys) h
+
+pub same-false : (xs ys : List ℕ) → same xs ys ≡ false → xs ≡ ys → ⊥
+same-false xs ys h e = not-both (same-refl xs) (rw (← e) at h)
+
+pub differ-same : (xs ys : List ℕ) → (xs ≡ ys → ⊥) → same xs ys ≡ false
+differ-same xs ys n = ⊎-elim (λ t. absurd (n (same-true xs ys t))) (λ f. f) (bool-cases (same xs ys))
+
+-- What holds of each place from a up to i, and of i, holds up to i + 1.
+pub span-more : {P : ℕ → Type 0} (a i : ℕ) → ((m : ℕ) → a ≤ m → m < i → P m) → P i → (m : ℕ) → a ≤ m → m < i + 1 → P m
+span-more {P} a i below here m h l =
+    ⊎-elim (λ e. subst P (sym e) here) (λ q. below m h q) (eq-or-lt-of-le {n = m} {m = i} (omega arith))
