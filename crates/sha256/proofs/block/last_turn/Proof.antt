@@ -1,0 +1,37 @@
+-- The code's round, with the constant and the word read. There is no loop.
+use borrow.Author.Needs.{needs}
+use Rattle.sha256.proofs.block.last_turn.Statement.{statement}
+use Rattle.sha256.proofs.block.last_turn.Tie as tie
+
+add-round : tie.Need-add-round
+add-round c = search needs
+
+mul-round : tie.Need-mul-round
+mul-round c = search needs
+
+element-copy-out-round : tie.Need-element-copy-out-round
+element-copy-out-round c = search needs
+
+mul-round-2 : tie.Need-mul-round-2
+mul-round-2 c = search needs
+
+element-copy-out-round-2 : tie.Need-element-copy-out-round-2
+element-copy-out-round-2 c = search needs
+
+round-requires : tie.Need-round-requires
+round-requires c κs = search needs
+
+returns : tie.Need-returns
+returns c = rw (c .before .before .before .pre .0) at (c .round .ensures)
+
+pub last-turn-spec : {M : Type 1} → statement M
+last-turn-spec =
+    tie.close
+    (tie.spec
+    add-round
+    mul-round
+    element-copy-out-round
+    mul-round-2
+    element-copy-out-round-2
+    round-requires
+    returns)

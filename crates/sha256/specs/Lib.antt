@@ -1,0 +1,4 @@
+pub mod Sha256
+pub mod Constants
+pub mod Schedule
+pub mod Hash
