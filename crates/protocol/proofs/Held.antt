@@ -1,0 +1,134 @@
+-- Laws of what a server's list holds: after a record replaces its owner's, that user's place is the record and every other place is as it
+-- was. A place whose own count is 0 holds nothing, so the own count held is that of the place either way.
+use Prim.Native.Nat.{ℕ, _+_, _-_, _*_, _≤_, _<_}
+use mathlib.Core.Bool.{Bool, true, false, cond}
+use mathlib.Core.List.{List, [], _∷_, _++_, append-assoc}
+use mathlib.Core.Logic.{⊎-elim}
+use mathlib.Core.Path.{_≡_, refl, sym, ap, _∙_}
+use native.Mathlib.Decide.{decLt}
+use native.Mathlib.Omega.{arith}
+use lib.Dec.{leb, eqb}
+use lib.ListN.{length, take, drop, replicate, length-append, length-drop, length-replicate, take-append-drop, getD-replicate}
+use lib.Seq.{length-take-le, take-at, drop-at, take-append-le, drop-append-le, drop-append-add, drop-drop}
+use borrow.Author.Tests.{eqb-true, ne-eqb, eq-eqb, le-leb}
+use Rattle.layout.specs.Bytes.{four, part}
+use Rattle.layout.proofs.Bytes.{four-past, four-part}
+use Rattle.search.proofs.Bool.{bool-cases}
+use Rattle.refusal.specs.Answer.{Answer, accepted}
+use Rattle.refusal.specs.Result.{left}
+use Rattle.refusal.specs.Order.{unless, inOrder}
+use Rattle.refusal.proofs.Order.{passing}
+use Rattle.protocol.specs.declared.Server.{Server}
+use Rattle.protocol.specs.Version.{size, owner, count}
+use Rattle.protocol.specs.Server.{empty, make, made, slot, held, heldOwn, replaced}
+
+-- No bytes count none.
+pub count-none : (v : ℕ) → count [] v ≡ 0
+count-none v = four-past [] (34 + 4 * v) (omega arith)
+
+-- A part that lies in front does not see what stands behind.
+part-front-of : (n : ℕ) (xs ys : List ℕ) (i : ℕ) → n * i + n ≤ length xs → part n (xs ++ ys) i ≡ part n xs i
+part-front-of n xs ys i h =
+    rw (drop-append-le (n * i) xs ys (omega arith)) (take-append-le n (drop (n * i) xs) ys (simp length-drop (omega arith)))
+
+-- Where a part stands between what is before it and what is behind it: the part, and what is behind.
+module _ (before x behind : List ℕ) (n o : ℕ) (b : length before ≡ n * o) (h : length x ≡ n) where
+  part-between : part n (before ++ (x ++ behind)) o ≡ x
+  part-between = rw (drop-at before (x ++ behind) (n * o) b) (take-at x behind n h)
+
+  drop-between : (d : ℕ) → drop (n * o + n + d) (before ++ (x ++ behind)) ≡ drop d behind
+  drop-between d =
+      let e : n * o + n + d ≡ length (before ++ x) + d = simp length-append (omega arith) in
+      rw (e, ← append-assoc before x behind) (drop-append-add (before ++ x) behind d)
+
+module _ (s : Server) (x : List ℕ) (long : length (s .records) ≡ 1568) (h : length x ≡ size) (o : owner x < 16) where
+  before-length : length (take (size * owner x) (s .records)) ≡ size * owner x
+  before-length = length-take-le (size * owner x) (s .records) (omega arith)
+
+  pub replaced-length : length (replaced s x .records) ≡ 1568
+  unfolding replaced
+  replaced-length = simp (length-append, before-length, length-drop) (omega arith)
+
+  pub slot-same : slot (replaced s x) (owner x) ≡ x
+  unfolding replaced
+  slot-same =
+      part-between (take (size * owner x) (s .records)) x (drop (size * owner x + size) (s .records)) size (owner x)
+      before-length h
+
+  slot-below : (v : ℕ) → v < owner x → slot (replaced s x) v ≡ slot s v
+  unfolding replaced
+  slot-below v l =
+      let f : size * v + size ≤ length (take (size * owner x) (s .records)) = omega (arith, before-length) in
+      part-front-of size (take (size * owner x) (s .records)) (x ++ drop (size * owner x + size) (s .records)) v f ∙
+      (sym (part-front-of size (take (size * owner x) (s .records)) (drop (size * owner x) (s .records)) v f) ∙
+      ap (λ (r : List ℕ). part size r v) (take-append-drop (size * owner x) (s .records)))
+
+  slot-above : (v : ℕ) → owner x < v → slot (replaced s x) v ≡ slot s v
+  unfolding replaced
+  slot-above v l =
+      let d : ℕ = 98 * v - (98 * owner x + 98) in
+      let e : size * v ≡ size * owner x + size + d = omega arith in
+      rw e
+      (ap (take size)
+      (drop-between (take (size * owner x) (s .records)) x (drop (size * owner x + size) (s .records)) size (owner x) before-length h d ∙
+      drop-drop d (size * owner x + size) (s .records)))
+
+  pub slot-other : (v : ℕ) → (v ≡ owner x → ⊥) → slot (replaced s x) v ≡ slot s v
+  slot-other v n =
+      elim (decLt v (owner x)) [
+        | yes l ↦ slot-below v l
+        | no g ↦ slot-above v (omega arith)
+      ]
+
+-- The own count held is that of the place.
+pub held-own : (s : Server) (v : ℕ) → heldOwn s v ≡ count (slot s v) v
+unfolding held
+held-own s v =
+    ⊎-elim (λ t. rw t (count-none v ∙ sym (eqb-true (count (slot s v) v) 0 t))) (λ f. rw f) (bool-cases (eqb (count (slot s v) v) 0))
+
+-- A place whose own count is not 0 is held.
+pub held-slot : (s : Server) (v : ℕ) → (count (slot s v) v ≡ 0 → ⊥) → held s v ≡ slot s v
+unfolding held
+held-slot s v n = rw (ne-eqb (count (slot s v) v) 0 n)
+
+-- Equal places hold the same.
+pub held-cong : (s t : Server) (v : ℕ) → slot s v ≡ slot t v → held s v ≡ held t v
+unfolding held
+held-cong s t v e = rw e
+
+-- Zeros count none, in any place.
+count-zeros : (n v : ℕ) → v < 16 → size * v + size ≤ n → count (part size (replicate n 0) v) v ≡ 0
+unfolding four
+count-zeros n v l h =
+    four-part (replicate n 0) (size * v) size (34 + 4 * v) (omega arith) ∙
+    rw (
+      getD-replicate {A = ℕ} n (size * v + (34 + 4 * v)) 0 0 (omega arith),
+      getD-replicate {A = ℕ} n (size * v + (34 + 4 * v) + 1) 0 0 (omega arith),
+      getD-replicate {A = ℕ} n (size * v + (34 + 4 * v) + 2) 0 0 (omega arith),
+      getD-replicate {A = ℕ} n (size * v + (34 + 4 * v) + 3) 0 0 (omega arith),
+    )
+
+-- The empty list holds nothing.
+pub held-empty : (N v : ℕ) → v < 16 → held (empty N) v ≡ []
+unfolding held empty
+held-empty N v l = ap (λ (b : Bool). cond b [] (slot (empty N) v)) (eq-eqb (count (slot (empty N) v) v) 0 (count-zeros 1568 v l (omega arith)))
+
+pub empty-length : (N : ℕ) → length (empty N .records) ≡ 1568
+unfolding empty
+empty-length N = length-replicate {A = ℕ} 1568 0
+
+-- Making hands back the list that holds nothing, also where it refuses.
+pub made-empty : (N : ℕ) → (M : ℕ) × (made N ≡ empty M)
+unfolding made make inOrder
+made-empty N = go (leb 1 N) (leb N 16)
+  where
+    go : (a b : Bool) → (M : ℕ) × (left (inOrder (unless a 1 0 0 ∷ unless b 1 0 0 ∷ []) (accepted (empty N))) (empty 1) ≡ empty M)
+    go true true = (N, refl)
+    go true false = (1, refl)
+    go false b = (1, refl)
+
+pub made-for : (N : ℕ) → 1 ≤ N → N ≤ 16 → made N ≡ empty N
+unfolding made make
+made-for N a b =
+    ap (λ (r : Answer Server). left r (empty 1))
+    (passing (unless (leb 1 N) 1 0 0 ∷ unless (leb N 16) 1 0 0 ∷ []) (rw (le-leb 1 N a), (rw (le-leb N 16 b), tt)))

@@ -1,0 +1,19 @@
+-- In reading order: structures and lists, what the check means, the first half of demand 3, the server's list, the honest half.
+pub mod Version
+pub mod List
+pub mod Conditions
+pub mod Meaning
+pub mod New
+pub mod Accepts
+pub mod History
+pub mod Fork
+pub mod NoFork
+pub mod ForkedRun
+pub mod Held
+pub mod Commits
+pub mod Listing
+pub mod Honest
+pub mod HonestCheck
+pub mod HonestCommit
+pub mod HonestTurns
+pub mod HonestExample

@@ -1,0 +1,65 @@
+-- Laws of version structures: a made structure reads back, and the orders by their counts.
+use Prim.Native.Nat.{ℕ, zero, suc, _+_, _*_, _≤_, _<_}
+use mathlib.Core.Bool.{true, not}
+use mathlib.Core.List.{List, [], _∷_, _++_}
+use mathlib.Core.Path.{_≡_, refl, ap, _∙_}
+use native.Mathlib.Omega.{arith}
+use lib.Dec.{leb, eqb}
+use lib.ListN.{length, length-append}
+use borrow.Author.Tests.{leb-true, le-leb, ne-eqb}
+use Rattle.layout.specs.Bytes.{four, bytes4}
+use Rattle.layout.proofs.Bytes.{four-bytes4, length-bytes4, four-behind}
+use Rattle.search.specs.Search.{every}
+use Rattle.search.proofs.Bool.{both-true}
+use Rattle.search.proofs.Search.{every-intro, every-at, every-fails}
+use Rattle.protocol.specs.Version.{size, owner, count, counts, structure, atOrBefore, strictlyBefore}
+
+length-counts : (f : ℕ → ℕ) (v k : ℕ) → length (counts f v k) ≡ 4 * k
+unfolding counts
+length-counts f v zero = refl
+length-counts f v (suc k) =
+    rw (length-append (bytes4 (f v)) (counts f (suc v) k), length-bytes4 (f v), length-counts f (suc v) k) (omega arith)
+
+four-counts : (f : ℕ → ℕ) (v k i : ℕ) → i < k → four (counts f v k) (4 * i) ≡ f (v + i)
+unfolding counts
+four-counts f v zero i h = absurd (omega arith)
+four-counts f v (suc k) zero h = let e : v + 0 ≡ v = omega arith in rw e (four-bytes4 (f v) (counts f (suc v) k))
+four-counts f v (suc k) (suc i) h =
+    let e : 4 * suc i ≡ length (bytes4 (f v)) + 4 * i = omega (arith, length-bytes4 (f v)) in
+    let s : v + suc i ≡ suc v + i = omega arith in
+    rw (e, s) (four-behind (bytes4 (f v)) (counts f (suc v) k) (4 * i) ∙ four-counts f (suc v) k i (omega arith))
+
+module _ (u : ℕ) (handle : List ℕ) (f : ℕ → ℕ) (h : length handle ≡ 32) where
+  pub length-structure : length (structure u handle f) ≡ size
+  unfolding structure
+  length-structure = simp length-append (omega (arith, length-counts f 0 16))
+
+  pub count-structure : (v : ℕ) → v < 16 → count (structure u handle f) v ≡ f v
+  unfolding structure
+  count-structure v l =
+      let e : 34 + 4 * v ≡ length (1 ∷ u ∷ handle) + 4 * v = omega arith in
+      let s : 0 + v ≡ v = omega arith in
+      rw e (four-behind (1 ∷ u ∷ handle) (counts f 0 16) (4 * v) ∙ (four-counts f 0 16 v l ∙ ap f s))
+
+  pub owner-structure : owner (structure u handle f) ≡ u
+  unfolding structure
+  owner-structure = refl
+
+module _ (x y : List ℕ) where
+  pub before-at : atOrBefore x y ≡ true → (v : ℕ) → v < 16 → count x v ≤ count y v
+  unfolding atOrBefore
+  before-at e v l = leb-true _ _ (every-at (λ w. leb (count x w) (count y w)) 0 16 e v (omega arith) l)
+
+  pub before-intro : ((v : ℕ) → v < 16 → count x v ≤ count y v) → atOrBefore x y ≡ true
+  unfolding atOrBefore
+  before-intro f = every-intro (λ w. leb (count x w) (count y w)) 0 16 (λ v a b. le-leb _ _ (f v b))
+
+  pub strictly-before : strictlyBefore x y ≡ true → atOrBefore x y ≡ true
+  unfolding strictlyBefore
+  strictly-before e = both-true (atOrBefore x y) (not (every (λ v. eqb (count x v) (count y v)) 0 16)) e .0
+
+  -- Strictly before: at or before, and less at some user.
+  pub strictly-intro : atOrBefore x y ≡ true → (v : ℕ) → v < 16 → count x v < count y v → strictlyBefore x y ≡ true
+  unfolding strictlyBefore
+  strictly-intro e v l h =
+      rw (e, every-fails (λ w. eqb (count x w) (count y w)) 0 16 v (omega arith) l (ne-eqb (count x v) (count y v) (λ q. omega arith)))

@@ -1,0 +1,70 @@
+-- The client's check of a version structure list and its next structure (the desk's verdict; 000, section 4.2).
+use Prim.Native.Nat.{ℕ, _+_, _*_}
+use mathlib.Core.Bool.{Bool, not, cond, _&&_, _||_}
+use mathlib.Core.List.{List, [], _∷_}
+use lib.Dec.{leb, ltb, eqb}
+use lib.ListN.{length, getD}
+use Rattle.search.specs.Search.{same}
+use Rattle.search.specs.Pairs.{everyPair, firstLow, firstHigh}
+use Rattle.refusal.specs.Answer.{Answer, accepted}
+use Rattle.refusal.specs.Order.{Step, unless, unlessEach, inOrder}
+use Rattle.protocol.specs.Version.{size, owner, count, structure, wellFormed, atOrBefore, strictlyBefore}
+use Rattle.protocol.specs.List.{records, recordAt, entry, wellPlaced}
+
+-- The largest count, 4,294,967,295.
+abbrev pub lastCount : ℕ
+lastCount = 4294967295
+
+-- "The new structure has owner u and that handle; for each other user its count is that user's own count in its list record, or 0; for u
+-- it is the remembered own count plus 1, or 1." `mem` is the remembered structure, or no bytes.
+unfoldable pub next : ℕ → List ℕ → List ℕ → List ℕ → List ℕ
+next u mem list handle =
+    structure u handle (λ v. cond (eqb v u) (count mem u + 1) (count (entry list v) v))
+
+-- The remembered structure is none, or well formed and u's own.
+unfoldable pub remembers : ℕ → ℕ → List ℕ → Bool
+remembers N u mem = eqb (length mem) 0 || (wellFormed N mem && eqb (owner mem) u)
+
+-- The list's entry for u and the remembered structure are the same bytes, or neither exists.
+unfoldable pub current : ℕ → List ℕ → List ℕ → Bool
+current u mem list = same (entry list u) mem
+
+-- Entries i and j of the list, i below j: one is at or before the other. Where j is the list's length it means the new structure, and
+-- entry i is strictly before it.
+unfoldable pub ordered : List ℕ → List ℕ → ℕ → ℕ → Bool
+ordered list new i j =
+    cond (ltb j (records list))
+    (atOrBefore (recordAt list i) (recordAt list j) || atOrBefore (recordAt list j) (recordAt list i))
+    (strictlyBefore (recordAt list i) new)
+
+-- "Order: 1, 2, 3 for the remembered structure, 3 for the list, 4, 5, 6, 7. One refusal is tried over all records before the next is tried."
+-- `room` is the length of the answer's buffer.
+unfoldable pub sizeSteps : ℕ → ℕ → List ℕ → List ℕ → List ℕ → List ℕ → ℕ → List Step
+sizeSteps N u mem list marks handle room =
+    unless (leb 1 N) 1 0 0 ∷
+    unless (leb N 16) 1 0 0 ∷
+    unless (ltb u N) 1 0 0 ∷
+    unless (eqb (length mem) 0 || eqb (length mem) size) 2 0 0 ∷
+    unless (eqb (size * records list) (length list)) 2 0 0 ∷
+    unless (leb (records list) N) 2 0 0 ∷
+    unless (eqb (length marks) (records list)) 2 0 0 ∷
+    unless (eqb (length handle) 32) 2 0 0 ∷ unless (eqb room size) 2 0 0 ∷ []
+
+unfoldable pub formSteps : ℕ → ℕ → List ℕ → List ℕ → List ℕ → List Step
+formSteps N u mem list marks =
+    unless (remembers N u mem) 3 16 0 ∷
+    unlessEach (wellPlaced N list) (records list) 3 ∷ unlessEach (λ i. eqb (getD marks i 0) 1) (records list) 4 ∷ []
+
+unfoldable pub orderSteps : ℕ → List ℕ → List ℕ → List ℕ → List Step
+orderSteps u mem list new =
+    unless (current u mem list) 5 0 0 ∷
+    unless (not (eqb (count mem u) lastCount)) 6 0 0 ∷
+    unless (everyPair (ordered list new) (records list)) 7 (firstLow (ordered list new) (records list))
+    (firstHigh (ordered list new) (records list)) ∷
+    []
+
+unfoldable pub check : ℕ → ℕ → List ℕ → List ℕ → List ℕ → List ℕ → ℕ → Answer (List ℕ)
+check N u mem list marks handle room =
+    inOrder (sizeSteps N u mem list marks handle room)
+    (inOrder (formSteps N u mem list marks)
+    (inOrder (orderSteps u mem list (next u mem list handle)) (accepted (next u mem list handle))))

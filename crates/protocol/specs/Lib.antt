@@ -1,0 +1,12 @@
+-- In reading order.
+pub mod Version
+pub mod List
+pub mod Check
+pub mod Server
+pub mod History
+pub mod Meaning
+pub mod NoFork
+pub mod ForkedRun
+pub mod Turns
+pub mod TwoUsers
+pub mod Commits
