@@ -1,0 +1,8 @@
+pub mod Apart
+pub mod Finish
+pub mod Judged
+pub mod Lengths
+pub mod Placed
+pub mod Records
+pub mod Tally
+pub mod Written

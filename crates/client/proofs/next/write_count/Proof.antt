@@ -1,0 +1,52 @@
+-- Four stores fill the four bytes.
+use Rattle.layout.specs.Bytes.{bytes4}
+use Rattle.client.proofs.Written.{four-stores}
+use borrow.Author.Needs.{needs}
+use Rattle.client.proofs.next.write_count.Statement.{statement}
+use Rattle.client.proofs.next.write_count.Tie as tie
+
+cast-out : tie.Need-cast-out
+cast-out c = search needs
+
+slice-write-out : tie.Need-slice-write-out
+slice-write-out c = search needs
+
+cast-out-2 : tie.Need-cast-out-2
+cast-out-2 c = search needs
+
+slice-write-out-2 : tie.Need-slice-write-out-2
+slice-write-out-2 c = search needs
+
+cast-out-3 : tie.Need-cast-out-3
+cast-out-3 c = search needs
+
+slice-write-out-3 : tie.Need-slice-write-out-3
+slice-write-out-3 c = search needs
+
+cast-out-4 : tie.Need-cast-out-4
+cast-out-4 c = search needs
+
+slice-write-out-4 : tie.Need-slice-write-out-4
+slice-write-out-4 c = search needs
+
+same-length : tie.Need-same-length
+same-length c = search needs
+
+returns : tie.Need-returns
+unfolding bytes4
+returns c = four-stores (c .args .out .now) _ _ _ _ (c .pre)
+
+pub write-count-spec : {M : Type 1} → statement M
+write-count-spec =
+    tie.close
+    (tie.spec
+    cast-out
+    slice-write-out
+    cast-out-2
+    slice-write-out-2
+    cast-out-3
+    slice-write-out-3
+    cast-out-4
+    slice-write-out-4
+    same-length
+    returns)

@@ -1,0 +1,151 @@
+// The third stage: refusals 5, 6 and 7, by which the list goes on from the current structure.
+ghost use mathlib.Core.Path.{_≡_};
+ghost use mathlib.Core.Bool.{_||_};
+ghost use mathlib.Core.List.{List, [], _∷_};
+ghost use Prim.Native.Nat.{ℕ, _+_, _*_, _≤_, _<_};
+ghost use lib.Dec.{eqb};
+ghost use lib.ListN.{length, getD};
+ghost use Rattle.search.specs.Search.{find};
+ghost use Rattle.refusal.specs.Answer.{accepted};
+ghost use Rattle.refusal.specs.Order.{tried};
+ghost use Rattle.refusal.specs.Refusal.{said};
+ghost use Rattle.protocol.specs.Version.{owner};
+ghost use Rattle.protocol.specs.List.{records, recordAt};
+ghost use Rattle.protocol.specs.Check.{orderSteps, current as currentOf, next as nextOf};
+ghost use Rattle.version.specs.Version.{fields, countsBefore, countsStrictlyBefore};
+ghost use Rattle.client.specs.Stages.{nextCounts, pairStep, none};
+use refusal::Check;
+use refusal::Refusal;
+use version::Version;
+
+// The place of the user's record in the list; the number of records if there is none.
+fn entry(user: u8, list: &[u8], n: usize) -> usize
+    requires { ⌜ 98 * n ≤ length (now list) ⌝ }
+    ensures { λ r. ⌜ r ≡ find (λ i. eqb (owner (recordAt (now (list .entry)) i)) user) 0 n ⌝ }
+{
+    let mut i = 0;
+    while i < n {
+        if list[98 * i + 1] == user {
+            return i;
+        }
+        i += 1;
+    }
+    n
+}
+
+// Whether the list's record of the user and the current structure are the same bytes, or neither exists.
+fn current(user: u8, memory: &[u8], list: &[u8]) -> bool
+    requires { ⌜ 98 * records (now list) ≡ length (now list) ⌝ }
+    ensures { λ r. ⌜ r ≡ currentOf user (now (memory .entry)) (now (list .entry)) ⌝ }
+{
+    let n = list.len() / 98;
+    let i = entry(user, list, n);
+    if n <= i {
+        return memory.len() == 0;
+    }
+    let record = &list[98 * i..98 * i + 98];
+    search::equal(record, memory)
+}
+
+// Whether one of x and y is at or before the other.
+fn comparable(x: [u32; 16], y: [u32; 16]) -> bool
+    ensures { λ r. ⌜ r ≡ (countsBefore x y || countsBefore y x) ⌝ }
+{
+    if version::at_or_before(x, y) {
+        return true;
+    }
+    version::at_or_before(y, x)
+}
+
+// Whether x is strictly before the next structure.
+fn before_next(x: [u32; 16], next: [u32; 16]) -> bool
+    ensures { λ r. ⌜ r ≡ countsStrictlyBefore x next ⌝ }
+{
+    version::strictly_before(x, next)
+}
+
+// The list as an array of structures.
+fn read_list(list: &[u8], n: usize) -> [Version; 16]
+    requires { ⌜ n ≤ 16 ⌝ }
+    requires { ⌜ 98 * n ≤ length (now list) ⌝ }
+    ensures { λ r. ⌜ ((i : ℕ) → i < n → getD r i none ≡ fields (recordAt (now (list .entry)) i)) ⌝ }
+{
+    let blank = Version {
+        owner: 0,
+        handle: [0u8; 32],
+        counts: [0u32; 16],
+    };
+    let mut structures = [blank; 16];
+    let mut i = 0;
+    while i < n {
+        structures[i] = version::read(&list[98 * i..98 * i + 98]);
+        i += 1;
+    }
+    structures
+}
+
+// Whether all pairs are ordered: the records with each other, and each with a structure of the counts `next`.
+fn pairs(list: &[u8], next: [u32; 16]) -> Check
+    requires { ⌜ 98 * records (now list) ≡ length (now list) ⌝ }
+    requires { ⌜ records (now list) ≤ 16 ⌝ }
+    ensures { λ r. ⌜ ((new : List ℕ) → next ≡ fields new .counts → said r ≡ tried (pairStep (now (list .entry)) new ∷ [])) ⌝ }
+{
+    let n = list.len() / 98;
+    let structures = read_list(list, n);
+    let mut i = 0;
+    let mut j = 0;
+    'pairs: while i < n {
+        let x = structures[i];
+        let low = x.counts;
+        j = i + 1;
+        while j < n {
+            let y = structures[j];
+            let high = y.counts;
+            if !comparable(low, high) {
+                break 'pairs;
+            }
+            j += 1;
+        }
+        if !before_next(low, next) {
+            break 'pairs;
+        }
+        i += 1;
+    }
+    if i < n {
+        return Check::Refused(Refusal::Unordered(i, j));
+    }
+    Check::Passed
+}
+
+// The stage's answer, with the counts of the next structure where it passes.
+pub(crate) struct Judged {
+    pub answer: Check,
+    pub counts: [u32; 16],
+}
+
+pub(crate) fn order(user: u8, memory: &[u8], list: &[u8]) -> Judged
+    requires { ⌜ user < 16 ⌝ }
+    requires { ⌜ 98 * records (now list) ≡ length (now list) ⌝ }
+    requires { ⌜ records (now list) ≤ 16 ⌝ }
+    requires { ⌜ ((i : ℕ) → i < records (now list) → owner (recordAt (now list) i) < 16) ⌝ }
+    ensures answer { λ r. ⌜ ((handle : List ℕ) → length handle ≡ 32 → said (r .answer) ≡ tried (orderSteps user (now (memory .entry)) (now (list .entry)) (nextOf user (now (memory .entry)) (now (list .entry)) handle))) ⌝ }
+    ensures counts { λ r. ⌜ (said (r .answer) ≡ accepted tt → r .counts ≡ nextCounts user (now (memory .entry)) (now (list .entry))) ⌝ }
+{
+    let listed = current(user, memory, list);
+    let own = layout::u32_at(memory, 34 + 4 * (user as usize));
+    if !listed {
+        return Judged {
+            answer: Check::Refused(Refusal::NotCurrent),
+            counts: [0u32; 16],
+        };
+    }
+    if own == 4294967295 {
+        return Judged {
+            answer: Check::Refused(Refusal::LastVersion),
+            counts: [0u32; 16],
+        };
+    }
+    let counts = crate::next::counts(user, memory, list);
+    let answer = pairs(list, counts);
+    Judged { answer, counts }
+}

@@ -1,0 +1,72 @@
+-- The sixteen counts, read in a row.
+-- The invariant: the counts of the users passed are in place.
+use Prim.Native.Nat.{ℕ, _≤_, _-_}
+use mathlib.Core.Path.{_≡_, refl, sym, _∙_}
+use native.Mathlib.Omega.{arith}
+use lib.ListN.{length, take, length-set}
+use lib.Seq.{take-all}
+use Rattle.layout.specs.Bytes.{values}
+use Rattle.layout.proofs.Values.{filled}
+use Rattle.protocol.specs.Version.{count}
+use Rattle.version.proofs.read_counts.Statement.{statement}
+use Rattle.version.proofs.read_counts.Tie as tie
+
+abbrev Inv-loop : tie.InvT-loop
+Inv-loop x counts₀ v₀ counts v = (v ≤ 16) × (length counts ≡ 16) × (take v counts ≡ values (count x) 0 v)
+
+abbrev μ-loop : tie.MeasureT-loop
+μ-loop x counts₀ v₀ counts v = 16 - v
+
+loop-holds : tie.Need-loop-holds Inv-loop μ-loop
+unfolding values
+loop-holds c = (omega arith, refl, refl)
+
+mul-u32-at : tie.Need-mul-u32-at Inv-loop μ-loop
+mul-u32-at c = omega arith
+
+add-u32-at : tie.Need-add-u32-at Inv-loop μ-loop
+add-u32-at c = omega arith
+
+u32-at-requires : tie.Need-u32-at-requires Inv-loop μ-loop
+u32-at-requires c κs = omega arith
+
+mul-counts : tie.Need-mul-counts Inv-loop μ-loop
+mul-counts c = omega arith
+
+array-write-counts : tie.Need-array-write-counts Inv-loop μ-loop
+array-write-counts c = omega arith
+
+add-v : tie.Need-add-v Inv-loop μ-loop
+add-v c = omega arith
+
+loop-less : tie.Need-loop-less Inv-loop μ-loop
+loop-less c = omega arith
+
+loop-again : tie.Need-loop-again Inv-loop μ-loop
+loop-again c = (
+  omega arith,
+  simp length-set (c .before .before .loop .inv .1),
+  filled (count (c .before .before .before .before .args .x .now)) _ _ _ (omega arith) (c .before .before .loop .inv .2) (c .u32-at .ensures),
+)
+
+returns : tie.Need-returns Inv-loop μ-loop
+returns c =
+    let e : c .before .loop .v ≡ 16 = omega arith in
+    sym (take-all 16 (c .before .loop .counts) (omega arith)) ∙ (rw e at (c .before .loop .inv .2))
+
+pub read-counts-spec : {M : Type 1} → statement M
+read-counts-spec =
+    tie.close
+    (tie.spec
+    Inv-loop
+    μ-loop
+    loop-holds
+    mul-u32-at
+    add-u32-at
+    u32-at-requires
+    mul-counts
+    array-write-counts
+    add-v
+    loop-less
+    loop-again
+    returns)

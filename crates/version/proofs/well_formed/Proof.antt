@@ -1,0 +1,60 @@
+-- The four tests of the definition, in its order; each `return false` has the one that fails.
+use Rattle.version.proofs.Form.{other-kind, no-user, no-version, others}
+use borrow.Author.Needs.{needs}
+use Rattle.version.proofs.well_formed.Statement.{statement}
+use Rattle.version.proofs.well_formed.Tie as tie
+
+byte-at-requires : tie.Need-byte-at-requires
+byte-at-requires c κs = search needs
+
+cast-owner : tie.Need-cast-owner
+cast-owner c = search needs
+
+byte-at-requires-2 : tie.Need-byte-at-requires-2
+byte-at-requires-2 c κs = search needs
+
+returns : tie.Need-returns
+returns c = other-kind _ _ _ _ (c .before .byte-at2 .ensures) (c .before .before .byte-at .ensures) (c .if1 .taken)
+
+returns-2 : tie.Need-returns-2
+returns-2 c =
+    no-user _ _ _ _ (c .before .before .byte-at2 .ensures) (c .before .before .before .byte-at .ensures) (c .before .if1 .left) (c .if2 .taken)
+
+mul-u32-at : tie.Need-mul-u32-at
+mul-u32-at c = search needs
+
+add-u32-at : tie.Need-add-u32-at
+add-u32-at c = search needs
+
+u32-at-requires : tie.Need-u32-at-requires
+u32-at-requires c κs = search needs
+
+returns-3 : tie.Need-returns-3
+returns-3 c =
+    no-version _ _ _ _ (c .before .before .before .before .byte-at2 .ensures) (c .before .before .before .before .before .byte-at .ensures)
+    (c .before .before .before .if1 .left) (c .before .before .if2 .left) _ (c .before .u32-at .ensures) (c .if3 .taken)
+
+zero-from-requires : tie.Need-zero-from-requires
+zero-from-requires c κs = search needs
+
+returns-4 : tie.Need-returns-4
+returns-4 c =
+    others _ _ _ _ (c .before .before .before .before .before .byte-at2 .ensures) (c .before .before .before .before .before .before .byte-at .ensures)
+    (c .before .before .before .before .if1 .left) (c .before .before .before .if2 .left) _ (c .before .before .u32-at .ensures)
+    (c .before .if3 .left) _ (c .zero-from .ensures)
+
+pub well-formed-spec : {M : Type 1} → statement M
+well-formed-spec =
+    tie.close
+    (tie.spec
+    byte-at-requires
+    cast-owner
+    byte-at-requires-2
+    returns
+    returns-2
+    mul-u32-at
+    add-u32-at
+    u32-at-requires
+    returns-3
+    zero-from-requires
+    returns-4)
