@@ -1,0 +1,68 @@
+-- Each user's record is written behind those of the users before it, so the held records stand at the front in the users' order.
+-- The invariant: what is held of the users below v stands at the front, up to `at`, and behind it the buffer is as it was.
+use Prim.Native.Nat.{_-_, _≤_}
+use mathlib.Core.List.{_++_}
+use mathlib.Core.Path.{_≡_, refl, _∙_}
+use native.Mathlib.Omega.{arith}
+use lib.ListN.{length, drop}
+use borrow.Author.Needs.{needs}
+use Rattle.protocol.specs.declared.Server.{Server}
+use Rattle.protocol.specs.Server.{heldFrom}
+use Rattle.server.proofs.Slots.{held-within, written-more, any-users}
+use Rattle.server.proofs.listing.write.Tie as tie
+use Rattle.server.proofs.listing.write.Statement.{statement}
+
+abbrev Inv-loop : tie.InvT-loop
+Inv-loop records out₀ at₀ v₀ out at v =
+    (v ≤ 16) × (at ≡ length (heldFrom (record { users = 0; records = records }) 0 v)) ×
+    (out ≡ heldFrom (record { users = 0; records = records }) 0 v ++ drop at out₀) × (length out ≡ length out₀)
+
+abbrev μ-loop : tie.MeasureT-loop
+μ-loop records out₀ at₀ v₀ out at v = 16 - v
+
+loop-holds : tie.Need-loop-holds Inv-loop μ-loop
+unfolding heldFrom
+loop-holds c = (omega arith, refl, refl, refl)
+
+write-one-requires : tie.Need-write-one-requires Inv-loop μ-loop
+write-one-requires c κs =
+    let l = c .before .before .loop in
+    let s : Server = record { users = 0; records = c .before .before .before .before .before .args .records .now } in
+    ((search needs, search needs), omega (arith, held-within s (l .v) (search needs)))
+
+add-v : tie.Need-add-v Inv-loop μ-loop
+add-v c = search needs
+
+loop-less : tie.Need-loop-less Inv-loop μ-loop
+loop-less c = search needs
+
+loop-again : tie.Need-loop-again Inv-loop μ-loop
+loop-again c =
+    let l = c .before .before .before .before .before .loop in
+    let s : Server = record { users = 0; records = c .before .before .before .before .before .before .before .before .args .records .now } in
+    let w = written-more s (l .v) (l .at) _ (l .out) (c .before .before .before .before .before .before .before .before .args .out .now) _ (l .inv .1) (c .before .before .write-one .ensures .0) (l .inv .2) (c .before .before .write-one .ensures .1) in
+    (search needs, w .0, w .1, c .before .before .write-one .kept .1 .1 .0 ∙ l .inv .3)
+
+same-length : tie.Need-same-length Inv-loop μ-loop
+same-length c = c .before .loop .inv .3
+
+returns : tie.Need-returns Inv-loop μ-loop
+returns c = λ u.
+    let e : c .before .loop .v ≡ 16 = omega arith in
+    let w = c .before .loop .inv .2 in
+    let r = c .before .before .before .before .args .records .now in
+    rw (any-users u 0 r) (rw (c .before .loop .inv .1, e) at w)
+
+pub write-spec : {M : Type 1} → statement M
+write-spec =
+    tie.close
+    (tie.spec
+    Inv-loop
+    μ-loop
+    loop-holds
+    write-one-requires
+    add-v
+    loop-less
+    loop-again
+    same-length
+    returns)

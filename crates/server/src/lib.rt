@@ -1,0 +1,101 @@
+// The server's version structure list (the keeper): made for a number of users, listed into a lent
+// buffer, and changed by a commit, one record at a time. Each call answers as the protocol's
+// definitions say, for every server value, also one that no call made: a user's record is held
+// exactly where its own count is not 0. It checks no signature; a mark says whether one is good.
+use protocol::Server;
+use refusal::Check;
+use refusal::Refusal;
+
+mod checks;
+mod held;
+mod listing;
+
+ghost use mathlib.Core.Path.{_≡_};
+ghost use Prim.Native.Nat.{_+_, _*_, _<_};
+ghost use mathlib.Core.List.{_++_};
+ghost use lib.ListN.{length, take, drop};
+ghost use Rattle.refusal.specs.Result.{Gives, left};
+ghost use Rattle.protocol.specs.Version.{size};
+ghost use Rattle.protocol.specs.Server.{empty as emptyOf, make as makeOf, listed, listing as listingOf, commit as commitOf};
+ghost use Rattle.server.specs.Listed.{listedAs};
+
+// What making gives: the check of the number of users, and the server's list.
+pub struct Made {
+    pub check: Check,
+    pub server: Server,
+}
+
+// What a listing gives: how many records were written, or why none were.
+pub enum Listed {
+    Records(usize),
+    Refused(Refusal),
+}
+
+// What a commit gives: the check of the record, and the server's list after it.
+pub struct Committed {
+    pub check: Check,
+    pub server: Server,
+}
+
+fn empty(users: u8) -> Server
+    ensures { λ r. ⌜ r ≡ emptyOf users ⌝ }
+{
+    let records = [0u8; 1568];
+    Server { users, records }
+}
+
+// The empty list for this number of users. Where the number is refused, the empty list for one
+// user comes back.
+pub fn make(users: u8) -> Made
+    ensures { λ r. ⌜ Gives (makeOf users) (emptyOf 1) (r .server) (r .check) ⌝ }
+{
+    let check = checks::make_check(users);
+    let Check::Passed = check else {
+        let server = empty(1);
+        return Made { check, server };
+    };
+    let server = empty(users);
+    Made { check, server }
+}
+
+// Writes the held records, owners ascending, to the front of `out`, and keeps the bytes after
+// them. Refused where `out` is too short for them, and then all of `out` is kept.
+pub fn list(server: Server, out: &mut [u8]) -> Listed
+    ensures answers { λ r. ⌜ listedAs r ≡ listed server (length (now (out .entry))) ⌝ }
+    ensures leaves { λ r. ⌜ now (out .exit) ≡ left (listingOf server (now (out .entry))) (now (out .entry)) ⌝ }
+{
+    let n = listing::number(&server.records);
+    if out.len() < 98 * n {
+        return Listed::Refused(Refusal::NoRoom);
+    }
+    listing::write(&server.records, out);
+    Listed::Records(n)
+}
+
+// The list with this record in its owner's place.
+fn replace(server: Server, x: &[u8], owner: usize) -> Server
+    requires { ⌜ (length (server .records) ≡ 1568) × (length (now x) ≡ size) × (owner < 16) ⌝ }
+    ensures { λ r. ⌜ r ≡ record { users = server .users; records = take (size * owner) (server .records) ++ (now (x .entry) ++ drop (size * owner + size) (server .records)) } ⌝ }
+{
+    let users = server.users;
+    let mut records = server.records;
+    let at = 98 * owner;
+    bytes::copy(x, &mut records[at..]);
+    Server { users, records }
+}
+
+// Takes the record in its owner's place, if it is signed by mark 1 and comes next after all that is
+// held. A refused commit gives the list back as it was.
+pub fn commit(server: Server, x: &[u8], mark: u8) -> Committed
+    ensures { λ r. ⌜ Gives (commitOf server (now (x .entry)) mark) server (r .server) (r .check) ⌝ }
+{
+    let check = checks::commit_check(server.users, &server.records, x, mark);
+    let Check::Passed = check else {
+        return Committed { check, server };
+    };
+    let after = replace(server, x, x[1] as usize);
+    Committed {
+        check,
+        server: after,
+    }
+}
