@@ -1,0 +1,101 @@
+-- The tests of one block, each by cases: what it says where the tests before it have failed or passed. The kind, the number of used slots and the
+-- numbers are as they were read.
+use Prim.Native.Nat.{ℕ, suc, _+_, _-_, _*_, _≤_, _<_}
+use mathlib.Core.Bool.{Bool, true, false}
+use mathlib.Core.List.{List}
+use mathlib.Core.Path.{_≡_, sym, ap, _∙_}
+use native.Mathlib.Omega.{arith}
+use lib.Dec.{leb, ltb, eqb}
+use borrow.Author.Tests.{eq-eqb, ne-eqb, le-leb, lt-leb, le-ltb, lt-ltb}
+use Rattle.itable.specs.Zeros.{zeros}
+use Rattle.itable.specs.Lookup.{lastAtMost}
+use Rattle.itable.specs.Block.{kind, used, number, kindDue, usedDue, ascending, unusedZero, firstDue, wellFormed}
+
+module _ (due : ℕ) (b : List ℕ) (k : ℕ) (ek : k ≡ kind b) where
+  pub below-root : (due ≡ 0 → ⊥) → eqb k due ≡ kindDue due b
+  unfolding kindDue
+  below-root n = rw (ne-eqb due 0 n, ek)
+
+  pub no-kind : due ≡ 0 → k < 3 → false ≡ kindDue due b
+  unfolding kindDue
+  no-kind z l = rw (eq-eqb due 0 z, sym ek, lt-leb 3 k l)
+
+  pub root-kind : due ≡ 0 → 3 ≤ k → leb k 5 ≡ kindDue due b
+  unfolding kindDue
+  root-kind z l = rw (eq-eqb due 0 z, sym ek, le-leb 3 k l)
+
+module _ (due : ℕ) (b : List ℕ) (u : ℕ) (eu : u ≡ used b) where
+  pub too-many : 16 < u → false ≡ usedDue due b
+  unfolding usedDue
+  too-many l = rw (sym eu, lt-leb u 16 l)
+
+  pub some-used : u ≤ 16 → 0 < u → true ≡ usedDue due b
+  unfolding usedDue
+  some-used l p = rw (sym eu, le-leb u 16 l, le-leb 1 u p)
+
+  pub empty-child : u ≤ 0 → (due ≡ 0 → ⊥) → false ≡ usedDue due b
+  unfolding usedDue
+  empty-child z n = rw (sym eu, le-leb u 16 (omega arith), lt-leb 1 u (omega arith), ne-eqb due 0 n)
+
+  pub empty-root : u ≤ 0 → due ≡ 0 → (k : ℕ) → k ≡ kind b → eqb k 3 ≡ usedDue due b
+  unfolding usedDue
+  empty-root z r k ek = rw (sym eu, le-leb u 16 (omega arith), lt-leb 1 u (omega arith), eq-eqb due 0 r, sym ek)
+
+module _ (due first : ℕ) (b : List ℕ) where
+  pub root-first : due ≡ 0 → true ≡ firstDue due first b
+  unfolding firstDue
+  root-first z = rw (eq-eqb due 0 z)
+
+  pub child-first : (due ≡ 0 → ⊥) → (n : ℕ) → n ≡ number b 0 → eqb n first ≡ firstDue due first b
+  unfolding firstDue
+  child-first z n e = rw (ne-eqb due 0 z, e)
+
+  -- The five tests in order: the first that fails, or the last.
+  pub wrong-kind : kindDue due b ≡ false → false ≡ wellFormed due first b
+  unfolding wellFormed
+  wrong-kind e = rw e
+
+  module _ (k : kindDue due b ≡ true) where
+    pub wrong-use : usedDue due b ≡ false → false ≡ wellFormed due first b
+    unfolding wellFormed
+    wrong-use e = rw (k, e)
+
+    module _ (u : usedDue due b ≡ true) where
+      pub not-ascending : ascending b ≡ false → false ≡ wellFormed due first b
+      unfolding wellFormed
+      not-ascending e = rw (k, u, e)
+
+      module _ (a : ascending b ≡ true) (n : ℕ) (en : n ≡ used b) where
+        rest : unusedZero b ≡ zeros b (2 + 40 * n) (642 - (2 + 40 * n))
+        unfolding unusedZero
+        rest = let e : 642 - (2 + 40 * n) ≡ 640 - 40 * n = omega arith in rw (sym en, e)
+
+        pub not-zero : zeros b (2 + 40 * n) (642 - (2 + 40 * n)) ≡ false → false ≡ wellFormed due first b
+        unfolding wellFormed
+        not-zero e = rw (k, u, a, rest, e)
+
+        pub last-test : zeros b (2 + 40 * n) (642 - (2 + 40 * n)) ≡ true → (r : Bool) → r ≡ firstDue due first b → r ≡ wellFormed due first b
+        unfolding wellFormed
+        last-test e r f = rw (k, u, a, rest, e) f
+
+-- The last of the first n numbers that is at most i, by the last of them.
+module _ (f : ℕ → ℕ) (i n : ℕ) (h : 0 < n) where
+  pub last-here : f (n - 1) ≤ i → lastAtMost f i n ≡ n
+  unfolding lastAtMost
+  last-here l =
+      let e : n ≡ suc (n - 1) = omega arith in
+      let g : lastAtMost f i (suc (n - 1)) ≡ suc (n - 1) = rw (le-leb (f (n - 1)) i l) in ap (lastAtMost f i) e ∙ (g ∙ sym e)
+
+  pub last-before : i < f (n - 1) → lastAtMost f i n ≡ lastAtMost f i (n - 1)
+  unfolding lastAtMost
+  last-before l =
+      let e : n ≡ suc (n - 1) = omega arith in
+      let g : lastAtMost f i (suc (n - 1)) ≡ lastAtMost f i (n - 1) = rw (lt-leb (f (n - 1)) i l) in ap (lastAtMost f i) e ∙ g
+
+-- Two numbers as they were read, compared.
+module _ {x y : ℕ} (f g : ℕ) (ex : x ≡ f) (ey : y ≡ g) where
+  pub read-above : x ≤ y → ltb g f ≡ false
+  read-above l = le-ltb g f (omega arith)
+
+  pub read-below : y < x → ltb g f ≡ true
+  read-below l = lt-ltb g f (omega arith)

@@ -1,0 +1,86 @@
+-- `return false` exhibits a number that is not below the next.
+-- The invariant: each number passed is below the next.
+use Prim.Native.Nat.{ℕ, _+_, _≤_, _<_, _-_}
+use mathlib.Core.Bool.{true}
+use mathlib.Core.Path.{_≡_, sym}
+use native.Mathlib.Omega.{arith}
+use lib.Dec.{ltb}
+use borrow.Author.Count.{below-more}
+use borrow.Author.Needs.{needs}
+use Rattle.search.proofs.Search.{every-intro, every-fails}
+use Rattle.itable.specs.Block as block
+use Rattle.block.proofs.Laws.{read-above, read-below}
+use Rattle.block.proofs.ascending.Statement.{statement}
+use Rattle.block.proofs.ascending.Tie as tie
+
+abbrev Inv-loop : tie.InvT-loop
+Inv-loop b used j₀ j = (used ≡ block.used b) × (used < 256) × (j ≤ used) × ((m : ℕ) → m < j → ltb (block.number b m) (block.number b (m + 1)) ≡ true)
+
+abbrev μ-loop : tie.MeasureT-loop
+μ-loop b used j₀ j = used - j
+
+byte-at-requires : tie.Need-byte-at-requires Inv-loop μ-loop
+byte-at-requires c κs = search needs
+
+cast-used : tie.Need-cast-used Inv-loop μ-loop
+cast-used c = omega arith
+
+loop-holds : tie.Need-loop-holds Inv-loop μ-loop
+loop-holds c = (c .byte-at .ensures, omega arith, omega arith, λ m h. absurd (omega arith))
+
+add-loop : tie.Need-add-loop Inv-loop μ-loop
+add-loop c = omega arith
+
+add-number : tie.Need-add-number Inv-loop μ-loop
+add-number c = omega arith
+
+number-requires : tie.Need-number-requires Inv-loop μ-loop
+number-requires c κs = omega arith
+
+number-requires-2 : tie.Need-number-requires-2 Inv-loop μ-loop
+number-requires-2 c κs = omega arith
+
+returns : tie.Need-returns Inv-loop μ-loop
+unfolding block.ascending
+returns c =
+    sym
+    (every-fails _ _ _ (c .before .before .before .before .loop .j) (omega arith) (omega arith)
+    (read-above _ _ (c .before .before .number .ensures) (c .before .number2 .ensures) (c .if1 .taken)))
+
+add-j : tie.Need-add-j Inv-loop μ-loop
+add-j c = omega arith
+
+loop-less : tie.Need-loop-less Inv-loop μ-loop
+loop-less c = omega arith
+
+loop-again : tie.Need-loop-again Inv-loop μ-loop
+loop-again c = (
+  c .before .before .before .before .loop .inv .0,
+  omega arith,
+  omega arith,
+  below-more _ _ (c .before .before .before .before .loop .inv .3)
+      (read-below _ _ (c .before .before .number .ensures) (c .before .number2 .ensures) (c .if1 .left)),
+)
+
+returns-2 : tie.Need-returns-2 Inv-loop μ-loop
+unfolding block.ascending
+returns-2 c = sym (every-intro _ _ _ (λ m a l. c .before .loop .inv .3 m (omega arith)))
+
+pub ascending-spec : {M : Type 1} → statement M
+ascending-spec =
+    tie.close
+    (tie.spec
+    Inv-loop
+    μ-loop
+    byte-at-requires
+    cast-used
+    loop-holds
+    add-loop
+    add-number
+    number-requires
+    number-requires-2
+    returns
+    add-j
+    loop-less
+    loop-again
+    returns-2)

@@ -1,0 +1,56 @@
+-- From the inner block that covers an i-number the lookup goes on at the child that covers it.
+use Prim.Native.Nat.{ℕ, suc, _+_, _-_, _*_, _/_, _≤_, _<_}
+use mathlib.Core.List.{List}
+use mathlib.Core.Path.{_≡_, ap, _∙_}
+use native.Mathlib.Omega.{arith}
+use Rattle.sha256.specs.Sha256.{sha256}
+use Rattle.itable.specs.Block.{kind, used, number}
+use Rattle.itable.specs.Table.{Level, usedIn, block, above}
+use Rattle.itable.specs.Lookup.{absent, lastAtMost, known, answerAt, consult}
+use Rattle.itable.proofs.Block.{above-sized, number-block, value-block, kind-block}
+use Rattle.itable.proofs.Place.{Place, above-place}
+use Rattle.itable.proofs.Cover.{cover, slot-used, slot-cover, slot-count, slot-last}
+use Rattle.itable.proofs.Consult.{along, answer-none, answer-on}
+
+module _ (κ : ℕ) (L : Level) (i p : ℕ) (q : Place L i p) (pos : 0 < L .count) (h : 3 ≤ κ) where
+  -- The block over the blocks of L, and its slot for the child.
+  abbrev pub parent : List ℕ
+  parent = block (suc κ) (above κ L) (cover ((p + 15) / 16))
+
+  abbrev slot : ℕ
+  slot = (p + 15) / 16 - 1 - 16 * cover ((p + 15) / 16)
+
+  place : Place (above κ L) i ((p + 15) / 16)
+  place = above-place κ L i p pos q
+
+  inner : kind parent ≡ 3 → ⊥
+  inner e = let k : kind parent ≡ suc κ = kind-block (suc κ) (above κ L) (cover ((p + 15) / 16)) in omega arith
+
+  last : lastAtMost (number parent) i (used parent) ≡ (p + 15) / 16 - 16 * cover ((p + 15) / 16)
+  last = slot-last (above κ L) i ((p + 15) / 16) place (above-sized κ L) (suc κ)
+
+  in-row : 16 * cover ((p + 15) / 16) ≤ above κ L .count
+  in-row = omega (arith, place .within)
+
+  module _ (path : List ℕ) (left d : ℕ) where
+    pub none-leads : p ≡ 0 → answerAt parent i left (suc d) (along path i left d parent) ≡ known left (suc d) absent
+    none-leads z = answer-none parent i left (suc d) (along path i left d parent) inner (last ∙ omega arith)
+
+    pub child-leads :
+        0 < p →
+        answerAt parent i left (suc d) (along path i left d parent) ≡
+        consult path i left (suc d) κ (L .number (16 * cover p)) (sha256 (block κ L (cover p)))
+    unfolding above
+    child-leads l =
+        let f : 0 < (p + 15) / 16 = omega arith in
+        let n : slot < usedIn (above κ L .count) (cover ((p + 15) / 16)) =
+        slot-used (above κ L .count) ((p + 15) / 16) (place .within) f in
+        let e : 16 * cover ((p + 15) / 16) + slot ≡ cover p = slot-cover ((p + 15) / 16) f in
+        let k : kind parent - 1 ≡ κ = ap (λ x. x - 1) (kind-block (suc κ) (above κ L) (cover ((p + 15) / 16))) ∙ omega arith in
+        answer-on parent i left (suc d) (along path i left d parent) slot inner (last ∙ slot-count ((p + 15) / 16) f) ∙
+        rw (
+          k,
+          number-block (above κ L) (above-sized κ L) (suc κ) (cover ((p + 15) / 16)) in-row slot n,
+          value-block (above κ L) (above-sized κ L) (suc κ) (cover ((p + 15) / 16)) in-row slot n,
+          e,
+        )

@@ -1,0 +1,13 @@
+pub mod Block
+pub mod Place
+pub mod Form
+pub mod Cover
+pub mod Consult
+pub mod Descend
+pub mod Rows
+pub mod Climb
+pub mod Otherwise
+pub mod Paths
+pub mod Answered
+pub mod Means
+pub mod Buffer

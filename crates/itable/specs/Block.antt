@@ -1,0 +1,51 @@
+-- The blocks of an i-table, as 642 bytes: kind (1), number of used slots (1), sixteen slots of number (8) and value (32). The value of a
+-- leaf's slot (kind 3) is a file handle, that of an inner block's (kinds 4 and 5) the child's SHA-256.
+use Prim.Native.Nat.{ℕ, _+_, _-_, _*_}
+use mathlib.Core.Bool.{Bool, cond, _&&_, _||_}
+use mathlib.Core.List.{List}
+use lib.Dec.{leb, ltb, eqb}
+use lib.ListN.{getD, take, drop}
+use Rattle.layout.specs.Bytes.{eight}
+use Rattle.search.specs.Search.{every}
+use Rattle.itable.specs.Zeros.{zeros}
+
+abbrev pub size : ℕ
+size = 642
+
+abbrev pub kind : List ℕ → ℕ
+kind b = getD b 0 0
+
+-- The number of used slots.
+abbrev pub used : List ℕ → ℕ
+used b = getD b 1 0
+
+-- The number and the value in slot j.
+abbrev pub number : List ℕ → ℕ → ℕ
+number b j = eight b (2 + 40 * j)
+
+abbrev pub value : List ℕ → ℕ → List ℕ
+value b j = take 32 (drop (10 + 40 * j) b)
+
+-- Where a block stands: `due` is the kind due there, 0 for the root, and `first` the number in the slot that led there, which the root has not.
+-- "The root's kind may be 3, 4 or 5, each next one is one less."
+unfoldable pub kindDue : ℕ → List ℕ → Bool
+kindDue due b = cond (eqb due 0) (leb 3 (kind b) && leb (kind b) 5) (eqb (kind b) due)
+
+-- "A leaf has 0 to 16 used slots, 0 only where it is the root. An inner block has 1 to 16."
+unfoldable pub usedDue : ℕ → List ℕ → Bool
+usedDue due b = leb (used b) 16 && (leb 1 (used b) || (eqb due 0 && eqb (kind b) 3))
+
+-- "Slot numbers strictly ascend; unused slots are all zero; used ones may hold any value, 0 included."
+unfoldable pub ascending : List ℕ → Bool
+ascending b = every (λ j. ltb (number b j) (number b (j + 1))) 0 (used b - 1)
+
+unfoldable pub unusedZero : List ℕ → Bool
+unusedZero b = zeros b (2 + 40 * used b) (640 - 40 * used b)
+
+-- "A child's first number equals the number in the slot that led to it. Nothing further ties a child to its parent."
+unfoldable pub firstDue : ℕ → ℕ → List ℕ → Bool
+firstDue due first b = eqb due 0 || eqb (number b 0) first
+
+-- A block is well formed at its place.
+unfoldable pub wellFormed : ℕ → ℕ → List ℕ → Bool
+wellFormed due first b = kindDue due b && (usedDue due b && (ascending b && (unusedZero b && firstDue due first b)))

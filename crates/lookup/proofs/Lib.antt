@@ -1,0 +1,5 @@
+pub mod Laws
+pub mod Found
+pub mod Ends
+pub mod Along
+pub mod Lengths

@@ -1,0 +1,182 @@
+// The lookup of an i-number under an i-handle, along one path of blocks, root first. A block's hash
+// is checked before anything else of it is read. Nothing is remembered between calls.
+ghost use mathlib.Core.Path.{_≡_};
+ghost use Prim.Native.Nat.{_+_, _*_, _≤_};
+ghost use lib.ListN.{length, take, drop};
+ghost use Rattle.refusal.specs.Refusal.{refusal};
+ghost use Rattle.itable.specs.Block.{kind};
+ghost use Rattle.itable.specs.Lookup.{consult, lookup as lookupOf};
+ghost use Rattle.lookup.specs.Looked.{Looks};
+ghost use Rattle.lookup.specs.Step.{ending, endSlot, Searched, Consulted};
+use refusal::Refusal;
+
+// What a lookup says: the i-number's file is there, or it is absent; or why the path says nothing.
+pub enum Outcome {
+    Found,
+    Absent,
+    Refused(Refusal),
+}
+
+// The answer of a lookup: the file's handle stands beside it, 32 zero bytes where none is found.
+pub struct Looked {
+    pub answer: Outcome,
+    pub handle: [u8; 32],
+}
+
+// How a lookup ends at a block.
+enum End {
+    WrongHash,
+    Malformed,
+    Here(usize),
+    Nowhere,
+}
+
+enum Step {
+    Ends(End),
+    Leads(usize),
+}
+
+// The 32 bytes from a place on.
+fn bytes32(b: &[u8], from: usize) -> [u8; 32]
+    requires { ⌜ from + 32 ≤ length (now b) ⌝ }
+    ensures { λ r. ⌜ r ≡ take 32 (drop from (now (b .entry))) ⌝ }
+{
+    let mut out = [0u8; 32];
+    let mut i = 0;
+    while i < 32 {
+        out[i] = b[from + i];
+        i += 1;
+    }
+    out
+}
+
+fn refused(r: Refusal) -> Looked
+    ensures { λ l. ⌜ Looks (refusal r) l ⌝ }
+{
+    Looked {
+        answer: Outcome::Refused(r),
+        handle: [0u8; 32],
+    }
+}
+
+// A leaf gives the handle, or absent.
+fn in_leaf(b: &[u8], number: u64) -> Step
+    requires { ⌜ kind (now b) ≡ 3 ⌝ }
+    ensures { λ r. ⌜ Searched (now (b .entry)) number r ⌝ }
+{
+    let j = block::slot_of(b, number);
+    let used = layout::byte_at(b, 1) as usize;
+    if j < used {
+        return Step::Ends(End::Here(j));
+    }
+    Step::Ends(End::Nowhere)
+}
+
+// In an inner block the last slot whose number is at most the i-number leads on.
+fn in_inner(b: &[u8], number: u64) -> Step
+    requires { ⌜ (kind (now b) ≡ 3 → ⊥) ⌝ }
+    ensures { λ r. ⌜ Searched (now (b .entry)) number r ⌝ }
+{
+    let n = block::last_at_most(b, number);
+    if n == 0 {
+        return Step::Ends(End::Nowhere);
+    }
+    Step::Leads(n - 1)
+}
+
+// Consults one block: its hash, then its form, then what it says of the i-number.
+fn one_block(b: &[u8], due: u8, first: u64, wanted: &[u8], number: u64) -> Step
+    requires { ⌜ length (now b) ≡ 642 ⌝ }
+    ensures { λ r. ⌜ Consulted (now (b .entry)) due first (now (wanted .entry)) number r ⌝ }
+{
+    let mut digest = [0u8; 32];
+    sha256::sha256(b, &mut digest);
+    if !search::equal(&digest, wanted) {
+        return Step::Ends(End::WrongHash);
+    }
+    if !block::well_formed(due, first, b) {
+        return Step::Ends(End::Malformed);
+    }
+    if layout::byte_at(b, 0) == 3 {
+        return in_leaf(b, number);
+    }
+    in_inner(b, number)
+}
+
+// The answer is known, or none is, at the block b, which is block d of the path; `left` more follow.
+fn ended(e: End, b: &[u8], left: usize, d: usize) -> Looked
+    requires { ⌜ (length (now b) ≡ 642) × (endSlot e ≤ 16) × (d ≤ 3) ⌝ }
+    ensures { λ r. ⌜ Looks (ending e (now (b .entry)) left d) r ⌝ }
+{
+    match e {
+        End::WrongHash => refused(Refusal::WrongHash(d)),
+        End::Malformed => refused(Refusal::Malformed(d)),
+        End::Here(j) => {
+            if 0 < left {
+                return refused(Refusal::PathLength(d + 1));
+            }
+            Looked {
+                answer: Outcome::Found,
+                handle: bytes32(b, 10 + 40 * j),
+            }
+        }
+        End::Nowhere => {
+            if 0 < left {
+                return refused(Refusal::PathLength(d + 1));
+            }
+            Looked {
+                answer: Outcome::Absent,
+                handle: [0u8; 32],
+            }
+        }
+    }
+}
+
+// Consults the n blocks of a path, as far as they are needed.
+fn walk(handle: &[u8], number: u64, path: &[u8], n: usize) -> Looked
+    requires { ⌜ (length (now handle) ≡ 32) × (length (now path) ≡ 642 * n) × (n ≤ 3) ⌝ }
+    ensures { λ r. ⌜ Looks (consult (now (path .entry)) number n 0 0 0 (now (handle .entry))) r ⌝ }
+{
+    let mut wanted = bytes32(handle, 0);
+    let mut due: u8 = 0;
+    let mut first: u64 = 0;
+    let mut d = 0;
+    while d < n {
+        let at = 642 * d;
+        let b = &path[at..at + 642];
+        let s = one_block(b, due, first, &wanted, number);
+        match s {
+            Step::Ends(e) => {
+                return ended(e, b, n - d - 1, d);
+            }
+            Step::Leads(j) => {
+                wanted = bytes32(b, 10 + 40 * j);
+                first = layout::u64_at(b, 2 + 40 * j);
+                due = b[0] - 1;
+                d += 1;
+            }
+        }
+    }
+    refused(Refusal::PathLength(d))
+}
+
+// Looks an i-number up: the handle of its file, or that it is absent. `path` is one to three whole
+// blocks, root first; `handle` is the root's hash. Nothing is written.
+pub fn lookup(handle: &[u8], number: u64, path: &[u8]) -> Looked
+    ensures { λ r. ⌜ Looks (lookupOf (now (handle .entry)) number (now (path .entry))) r ⌝ }
+{
+    if handle.len() != 32 {
+        return refused(Refusal::Length(0));
+    }
+    let n = path.len() / 642;
+    if 642 * n != path.len() {
+        return refused(Refusal::Length(0));
+    }
+    if n < 1 {
+        return refused(Refusal::Length(0));
+    }
+    if 3 < n {
+        return refused(Refusal::Length(0));
+    }
+    walk(handle, number, path, n)
+}

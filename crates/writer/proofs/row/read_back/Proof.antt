@@ -1,0 +1,118 @@
+-- Each turn reads one block: its first number, and its hash into its own 32 bytes.
+-- The invariant: the blocks passed are read back.
+use Prim.Native.Nat.{_-_, _≤_}
+use mathlib.Core.Path.{_≡_}
+use native.Mathlib.Omega.{arith}
+use lib.ListN.{length}
+use Rattle.writer.specs.Children.{ReadBack}
+use Rattle.writer.proofs.Children.{read-next}
+use Rattle.writer.proofs.row.read_back.Statement.{statement}
+use Rattle.writer.proofs.row.read_back.Tie as tie
+
+abbrev Inv-loop : tie.InvT-loop
+Inv-loop blocks u numbers₀ hashes₀ j₀ numbers hashes j = (j ≤ u) × (length numbers ≡ 16) × (length hashes ≡ 512) × ReadBack blocks j numbers hashes
+
+abbrev μ-loop : tie.MeasureT-loop
+μ-loop blocks u numbers₀ hashes₀ j₀ numbers hashes j = u - j
+
+loop-holds : tie.Need-loop-holds Inv-loop μ-loop
+loop-holds c =
+    (omega arith, omega arith, omega arith, record { first = λ m h. absurd (omega arith); hash = λ m h. absurd (omega arith) })
+
+mul-a : tie.Need-mul-a Inv-loop μ-loop
+mul-a c = omega arith
+
+mul-b : tie.Need-mul-b Inv-loop μ-loop
+mul-b c = omega arith
+
+add-u64-at : tie.Need-add-u64-at Inv-loop μ-loop
+add-u64-at c = omega arith
+
+u64-at-requires : tie.Need-u64-at-requires Inv-loop μ-loop
+u64-at-requires c κs = omega arith
+
+mul-numbers : tie.Need-mul-numbers Inv-loop μ-loop
+mul-numbers c = omega arith
+
+slice-write-numbers : tie.Need-slice-write-numbers Inv-loop μ-loop
+slice-write-numbers c = omega arith
+
+add-sha256 : tie.Need-add-sha256 Inv-loop μ-loop
+add-sha256 c = omega arith
+
+sub-sha256 : tie.Need-sub-sha256 Inv-loop μ-loop
+sub-sha256 c = omega arith
+
+part-sha256-start : tie.Need-part-sha256-start Inv-loop μ-loop
+part-sha256-start c = omega arith
+
+part-sha256-end : tie.Need-part-sha256-end Inv-loop μ-loop
+part-sha256-end c = omega arith
+
+add-sha256-2 : tie.Need-add-sha256-2 Inv-loop μ-loop
+add-sha256-2 c = omega arith
+
+sub-sha256-2 : tie.Need-sub-sha256-2 Inv-loop μ-loop
+sub-sha256-2 c = omega arith
+
+part-sha256-start-2 : tie.Need-part-sha256-start-2 Inv-loop μ-loop
+part-sha256-start-2 c = omega arith
+
+part-sha256-end-2 : tie.Need-part-sha256-end-2 Inv-loop μ-loop
+part-sha256-end-2 c = omega arith
+
+sha256-requires : tie.Need-sha256-requires Inv-loop μ-loop
+sha256-requires c κs = omega arith
+
+add-j : tie.Need-add-j Inv-loop μ-loop
+add-j c = omega arith
+
+loop-less : tie.Need-loop-less Inv-loop μ-loop
+loop-less c = omega arith
+
+loop-again : tie.Need-loop-again Inv-loop μ-loop
+loop-again c =
+    let r =
+    read-next _ _ _ _ _ (c .before .before .before .before .before .before .before .before .before .before .before .pre .0) (c .before .before .before .before .before .before .before .before .before .before .before .pre .1) (c .before .before .before .before .before .before .before .loop .inv .1) (c .before .before .before .before .before .before .before .loop .inv .2)
+    (c .before .before .before .before .before .before .loop-test .taken) (c .before .before .before .before .before .before .before .loop .inv .3) _ (c .before .before .before .before .before .u64-at .ensures) _ _
+    (c .before .before .sha256 .ensures) in (omega arith, r .0, r .1, r .2)
+
+same-length : tie.Need-same-length Inv-loop μ-loop
+same-length c = omega arith
+
+same-length-2 : tie.Need-same-length-2 Inv-loop μ-loop
+same-length-2 c = omega arith
+
+returns : tie.Need-returns Inv-loop μ-loop
+returns c =
+    let e : c .before .loop .j ≡ c .before .before .before .before .before .args .u = omega arith in
+    rw e at (c .before .loop .inv .3)
+
+pub read-back-spec : {M : Type 1} → statement M
+read-back-spec =
+    tie.close
+    (tie.spec
+    Inv-loop
+    μ-loop
+    loop-holds
+    mul-a
+    mul-b
+    add-u64-at
+    u64-at-requires
+    mul-numbers
+    slice-write-numbers
+    add-sha256
+    sub-sha256
+    part-sha256-start
+    part-sha256-end
+    add-sha256-2
+    sub-sha256-2
+    part-sha256-start-2
+    part-sha256-end-2
+    sha256-requires
+    add-j
+    loop-less
+    loop-again
+    same-length
+    same-length-2
+    returns)

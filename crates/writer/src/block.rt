@@ -1,0 +1,47 @@
+// One block, filled.
+ghost use mathlib.Core.Path.{_≡_};
+ghost use Prim.Native.Nat.{_-_, _*_, _≤_};
+ghost use mathlib.Core.List.{_++_};
+ghost use lib.ListN.{length, take, replicate};
+ghost use Rattle.layout.specs.Bytes.{bytes8};
+ghost use Rattle.itable.specs.Table.{files, block};
+
+// Writes one slot: a number and its value.
+fn slot(number: u64, value: &[u8], out: &mut [u8])
+    requires { ⌜ (length (now value) ≡ 32) × (length (now out) ≡ 40) ⌝ }
+    ensures { λ r. ⌜ now (out .exit) ≡ bytes8 number ++ now (value .entry) ⌝ }
+{
+    let b = layout::u64_bytes(number);
+    bytes::copy(&b, out);
+    bytes::copy(value, &mut out[8..40]);
+}
+
+// Sets the bytes from a place on to zero.
+fn clear(from: usize, out: &mut [u8])
+    requires { ⌜ from ≤ length (now out) ⌝ }
+    ensures { λ r. ⌜ now (out .exit) ≡ take from (now (out .entry)) ++ replicate (length (now (out .entry)) - from) 0 ⌝ }
+{
+    let mut i = from;
+    while i < out.len() {
+        out[i] = 0;
+        i += 1;
+    }
+}
+
+// Fills one block with these entries, each a number and 32 bytes. All of its bytes are written.
+pub(crate) fn fill(kind: u8, numbers: &[u64], values: &[u8], out: &mut [u8])
+    requires { ⌜ (length (now numbers) ≤ 16) × (length (now values) ≡ 32 * length (now numbers)) × (length (now out) ≡ 642) ⌝ }
+    ensures { λ r. ⌜ now (out .exit) ≡ block kind (files (now (numbers .entry)) (now (values .entry))) 0 ⌝ }
+{
+    let u = numbers.len();
+    out[0] = kind;
+    out[1] = u as u8;
+    let mut j = 0;
+    while j < u {
+        let from = 32 * j;
+        let at = 2 + 40 * j;
+        slot(numbers[j], &values[from..from + 32], &mut out[at..at + 40]);
+        j += 1;
+    }
+    clear(2 + 40 * u, out);
+}
