@@ -1,0 +1,163 @@
+// The desk program's input: whether it is of the stated form, and if so the client's check of the
+// parts that it holds. It reads and prints nothing; the bytes are whatever the program was given.
+//
+// What an input's parts are and what is to be said of it stands in specs/. The report is that, for
+// every input of any length.
+ghost use mathlib.Core.Path.{_≡_};
+ghost use mathlib.Core.Bool.{true};
+ghost use Prim.Native.Nat.{_*_, _-_, _≤_};
+ghost use lib.ListN.{length, take, drop};
+ghost use Rattle.refusal.specs.Answer.{accepted, andThen};
+ghost use Rattle.refusal.specs.Refusal.{checked as checkedOf};
+ghost use Rattle.input.specs.Form.{users as usersOf, user as userOf, handle as handleOf, formed as formedOf, behindMemory, firstMarks, firstRecords};
+ghost use Rattle.input.specs.Report.{Judgement, sixteen, answered, judgement, Reports};
+use refusal::Check;
+use refusal::Refusal;
+
+// What is said of an input.
+pub enum Outcome {
+    OtherForm,
+    Accepted,
+    Refused(Refusal),
+}
+
+// The outcome; the input's first two bytes, 0 where it has none; and the counts of the accepted
+// structure, zeros where nothing is accepted.
+pub struct Report {
+    pub outcome: Outcome,
+    pub users: u8,
+    pub user: u8,
+    pub counts: [u32; 16],
+}
+
+// The place behind the remembered structure, or behind the flag that says that there is none.
+fn behind_memory(flag: u8) -> usize
+    ensures { λ r. ⌜ (r ≡ behindMemory flag) × (35 ≤ r) ⌝ }
+{
+    if flag == 1 {
+        return 133;
+    }
+    35
+}
+
+// Whether the input is of the stated form. A length of at most 1,717 leaves room for sixteen records at most.
+fn formed(input: &[u8]) -> bool
+    ensures { λ r. ⌜ r ≡ formedOf (now (input .entry)) ⌝ }
+{
+    if input.len() < 35 {
+        return false;
+    }
+    if 1717 < input.len() {
+        return false;
+    }
+    let flag = input[34];
+    if 1 < flag {
+        return false;
+    }
+    let start = behind_memory(flag);
+    if input.len() < start {
+        return false;
+    }
+    if (input.len() - start) % 99 != 0 {
+        return false;
+    }
+    true
+}
+
+// The n marks and the n records of what the server sent, each to the front of its buffer.
+fn take_apart(sent: &[u8], n: usize, marks: &mut [u8], list: &mut [u8])
+    requires { ⌜ 99 * n ≤ length (now sent) ⌝ }
+    requires { ⌜ n ≤ 16 ⌝ }
+    requires { ⌜ length (now marks) ≡ 16 ⌝ }
+    requires { ⌜ length (now list) ≡ 1568 ⌝ }
+    ensures marks { λ r. ⌜ (length (now (marks .exit)) ≡ 16) × (take n (now (marks .exit)) ≡ firstMarks (now (sent .entry)) n) ⌝ }
+    ensures list { λ r. ⌜ (length (now (list .exit)) ≡ 1568) × (take (98 * n) (now (list .exit)) ≡ firstRecords (now (sent .entry)) n) ⌝ }
+{
+    let mut i = 0;
+    while i < n {
+        marks[i] = sent[99 * i];
+        bytes::copy(
+            &sent[99 * i + 1..99 * i + 99],
+            &mut list[98 * i..98 * i + 98],
+        );
+        i += 1;
+    }
+}
+
+// The report of the check's answer, given what the check left in the buffer of the new structure.
+fn tell(users: u8, user: u8, answer: Check, new: &[u8]) -> Report
+    ensures { λ r. ⌜ Reports (Judgement.answer (andThen (checkedOf (now (new .entry)) answer) (λ s. accepted (sixteen s)))) users user r ⌝ }
+{
+    match answer {
+        Check::Passed => {
+            let next = version::read(new);
+            let counts = next.counts;
+            Report {
+                outcome: Outcome::Accepted,
+                users,
+                user,
+                counts,
+            }
+        }
+        Check::Refused(refusal) => Report {
+            outcome: Outcome::Refused(refusal),
+            users,
+            user,
+            counts: [0u32; 16],
+        },
+    }
+}
+
+// The report on the check of these marks and records, with all else as it stands in the input.
+fn ask(input: &[u8], start: usize, list: &[u8], marks: &[u8]) -> Report
+    requires { ⌜ 35 ≤ start ⌝ }
+    requires { ⌜ start ≤ length (now input) ⌝ }
+    ensures { λ r. ⌜ Reports (answered (usersOf (now (input .entry))) (userOf (now (input .entry))) (take (start - 35) (drop 35 (now (input .entry)))) (now (list .entry)) (now (marks .entry)) (handleOf (now (input .entry)))) (usersOf (now (input .entry))) (userOf (now (input .entry))) r ⌝ }
+{
+    let users = input[0];
+    let user = input[1];
+    let mut new = [0u8; 98];
+    let answer = client::check(
+        users,
+        user,
+        &input[35..start],
+        list,
+        marks,
+        &input[2..34],
+        &mut new,
+    );
+    tell(users, user, answer, &new)
+}
+
+// The report on an input of the stated form.
+fn checked(input: &[u8]) -> Report
+    requires { ⌜ formedOf (now input) ≡ true ⌝ }
+    ensures { λ r. ⌜ Reports (judgement (now (input .entry))) (usersOf (now (input .entry))) (userOf (now (input .entry))) r ⌝ }
+{
+    let start = behind_memory(input[34]);
+    let n = (input.len() - start) / 99;
+    let mut marks = [0u8; 16];
+    let mut list = [0u8; 1568];
+    take_apart(&input[start..], n, &mut marks, &mut list);
+    ask(input, start, &list[..98 * n], &marks[..n])
+}
+
+// The report on an input: it is of another form, or it holds u, N and all that the check is asked
+// about, and this is the check's answer.
+//
+// Any bytes of any length are taken, and nothing is kept.
+pub fn judge(input: &[u8]) -> Report
+    ensures { λ r. ⌜ Reports (judgement (now (input .entry))) (usersOf (now (input .entry))) (userOf (now (input .entry))) r ⌝ }
+{
+    if formed(input) {
+        return checked(input);
+    }
+    let users = layout::byte_at(input, 0);
+    let user = layout::byte_at(input, 1);
+    Report {
+        outcome: Outcome::OtherForm,
+        users,
+        user,
+        counts: [0u32; 16],
+    }
+}
