@@ -1,0 +1,282 @@
+/*
+ * sundr.h: the calls of the SUNDR client library, libsundr.a.
+ *
+ * No call allocates, keeps anything between calls, or reads or writes anything but what is
+ * lent to it. All memory belongs to the caller, before and after. Calls may run in several
+ * threads at once, on memory that they do not share.
+ *
+ * Lent memory. Each buffer is passed as a pointer, then the number of its elements. The
+ * pointer may be NULL where that number is 0; otherwise all the elements must be there.
+ * A buffer that a call writes (a pointer to non-const) must not overlap another of its
+ * buffers. There is no other duty: whatever the bytes, the numbers and the lengths are,
+ * each call ends, with the answer that its comment gives.
+ *
+ * Answers. Each call answers one number of 64 bits:
+ *
+ *     bits  0 to  7   0 if the call accepted, else the number of the refusal (1 to 12)
+ *     bits  8 to 31   accepted: the first result;   refused: the first position
+ *     bits 32 to 63   accepted: the second result;  refused: the second position
+ *
+ * A result or a position that a call's comment does not name is 0. A call that refuses has
+ * not altered one lent byte.
+ */
+#ifndef SUNDR_H
+#define SUNDR_H
+
+#include <stddef.h>
+#include <stdint.h>
+
+#ifdef __cplusplus
+extern "C" {
+#endif
+
+/* The numbers in bits 0 to 7 of an answer. */
+enum sundr_refusal {
+	SUNDR_ACCEPTED = 0,
+	SUNDR_USERS = 1,          /* the number of users is not 1 to 16, or the user not below it */
+	SUNDR_LENGTH = 2,         /* a length is not the stated one */
+	SUNDR_MALFORMED = 3,      /* a record, the order of owners, a block or an inode is malformed */
+	SUNDR_UNSIGNED = 4,       /* a signature mark is not 1 */
+	SUNDR_NOT_CURRENT = 5,    /* the own version is not the current one */
+	SUNDR_LAST_VERSION = 6,   /* the own version number is the last there is */
+	SUNDR_UNORDERED = 7,      /* two version structures are not ordered */
+	SUNDR_WRONG_HASH = 8,     /* a hash is not the expected one */
+	SUNDR_PATH_LENGTH = 9,    /* a path is too short or too long */
+	SUNDR_NO_BLOCK = 10,      /* the file has no such block */
+	SUNDR_NOT_ASCENDING = 11, /* an i-number is not above the one before */
+	SUNDR_NO_ROOM = 12        /* a buffer is shorter than what is to be written */
+};
+
+/* The refusal in an answer, SUNDR_ACCEPTED if there is none. */
+static inline enum sundr_refusal sundr_refusal(uint64_t answer)
+{
+	return (enum sundr_refusal)(answer & 0xff);
+}
+
+/* The first result or position in an answer. */
+static inline uint32_t sundr_first(uint64_t answer)
+{
+	return (uint32_t)(answer >> 8) & 0xffffff;
+}
+
+/* The second result or position in an answer. */
+static inline uint32_t sundr_second(uint64_t answer)
+{
+	return (uint32_t)(answer >> 32);
+}
+
+/* The longest message that sundr_sha256() takes, and the length of a hash. */
+#define SUNDR_SHA256_MAX_MESSAGE 65536
+#define SUNDR_SHA256_LEN 32
+
+/*
+ * sundr_sha256: the SHA-256 of FIPS 180-4.
+ *
+ * Reads message[0..message_len). Accepted: the hash of the message is in out[0..32), and
+ * both results are 0.
+ *
+ * Refused, with out as it was:
+ *   SUNDR_LENGTH   message_len is above 65,536, or out_len is not 32.
+ */
+uint64_t sundr_sha256(const uint8_t *message, size_t message_len,
+	uint8_t *out, size_t out_len);
+
+/* The most users there can be, the bytes of a version structure, and the bytes of an i-handle. */
+#define SUNDR_MAX_USERS 16
+#define SUNDR_VERSION_LEN 98
+#define SUNDR_HANDLE_LEN 32
+
+/*
+ * A version structure, 98 bytes: the byte 1; its owner, a byte; an i-handle, 32 bytes; then, for
+ * each user from 0 to 15, how many operations of that user it counts, 4 bytes, big-endian. A
+ * version structure list (VSL) is such records end to end.
+ */
+
+/*
+ * sundr_check: a client's check of the server's version structure list, and its next version
+ * structure.
+ *
+ * Reads the number of users, the client's own user, the client's current version structure
+ * memory[0..memory_len) (98 bytes, or none where it has none yet), the list, a mark for each of
+ * its records (1 if the caller found the record's signature good), and the new i-handle.
+ * Accepted: the client's next version structure is in out[0..98), and both results are 0. To
+ * sign it, and to keep it as the next call's memory, is the caller's.
+ *
+ * Refused, with out as it was; tried in this order, each over all records before the next:
+ *   SUNDR_USERS         users is not 1 to 16, or user is not below users.
+ *   SUNDR_LENGTH        memory_len is not 0 or 98, list_len is not a multiple of 98 or is above
+ *                       98 * users, marks_len is not list_len / 98, handle_len is not 32, or
+ *                       out_len is not 98.
+ *   SUNDR_MALFORMED     first 16: memory is not well formed, or not the client's own;
+ *                       first below 16: the first record that is not well formed, or whose
+ *                       owner is not above the owner before.
+ *   SUNDR_UNSIGNED      first: the first mark that is not 1.
+ *   SUNDR_NOT_CURRENT   the list's record for the user and memory differ in a byte, or only
+ *                       one of them is there.
+ *   SUNDR_LAST_VERSION  memory counts 4,294,967,295 operations of the user.
+ *   SUNDR_UNORDERED     first, second: the least pair of records of which neither is at or
+ *                       before the other; where second is the number of records, it means the
+ *                       new structure, and the first is not strictly before it.
+ */
+uint64_t sundr_check(uint8_t users, uint8_t user,
+	const uint8_t *memory, size_t memory_len,
+	const uint8_t *list, size_t list_len,
+	const uint8_t *marks, size_t marks_len,
+	const uint8_t *handle, size_t handle_len,
+	uint8_t *out, size_t out_len);
+
+/*
+ * A server's version structure list. Slot v, the 98 bytes from records[98 * v] on, holds the last
+ * record of user v, and holds none if it counts no operation of v. Any bytes may be lent as a
+ * server: there is nothing else in it, and no call trusts what it finds there.
+ */
+struct sundr_server {
+	uint8_t users;
+	uint8_t records[SUNDR_MAX_USERS * SUNDR_VERSION_LEN];
+};
+
+/* The bytes of a struct sundr_server. */
+#define SUNDR_SERVER_LEN 1569
+
+/*
+ * sundr_server_make_at: an empty list, in server[0..1569), for this many users.
+ *
+ * Accepted: the first byte is users, the others are 0, and both results are 0.
+ *
+ * Refused, with server as it was; tried in this order:
+ *   SUNDR_LENGTH   server_len is not 1,569.
+ *   SUNDR_USERS    users is not 1 to 16.
+ */
+uint64_t sundr_server_make_at(uint8_t users, uint8_t *server, size_t server_len);
+
+/*
+ * sundr_server_list_at: the records that the server in server[0..1569) holds, as a list.
+ *
+ * Accepted: the first result is their number n, they are in out[0..98 * n), owners ascending,
+ * and the bytes of out after them are as they were. The second result is 0.
+ *
+ * Refused, with out as it was; tried in this order:
+ *   SUNDR_LENGTH    server_len is not 1,569.
+ *   SUNDR_NO_ROOM   out_len is below 98 * n.
+ */
+uint64_t sundr_server_list_at(const uint8_t *server, size_t server_len,
+	uint8_t *out, size_t out_len);
+
+/*
+ * sundr_server_commit: takes a client's new record into the server's list.
+ *
+ * Reads the record, and its mark (1 if the caller found its signature good). Accepted: the
+ * record is in its owner's slot, nothing else of *server is altered, and both results are 0.
+ *
+ * Refused, with *server as it was; tried in this order:
+ *   SUNDR_LENGTH        record_len is not 98.
+ *   SUNDR_MALFORMED     the record is not well formed for server->users users.
+ *   SUNDR_UNSIGNED      mark is not 1.
+ *   SUNDR_NOT_CURRENT   its count for its owner is not one more than the held record's, or
+ *                       than 0 where none is held.
+ *   SUNDR_UNORDERED     first: the lowest user whose held record is not strictly before this
+ *                       one, or, for another user than the owner, of whose operations this one
+ *                       does not count as many as the held record does, 0 where none is held.
+ */
+uint64_t sundr_server_commit(struct sundr_server *server,
+	const uint8_t *record, size_t record_len, uint8_t mark);
+
+/* sundr_server_make_at() for a struct. */
+static inline uint64_t sundr_server_make(struct sundr_server *server, uint8_t users)
+{
+	return sundr_server_make_at(users, (uint8_t *)server, sizeof *server);
+}
+
+/* sundr_server_list_at() for a struct. */
+static inline uint64_t sundr_server_list(const struct sundr_server *server, uint8_t *out, size_t out_len)
+{
+	return sundr_server_list_at((const uint8_t *)server, sizeof *server, out, out_len);
+}
+
+/* The most files of an i-table, the bytes of one of its blocks, and the most blocks of an i-table and of a path. */
+#define SUNDR_TABLE_MAX_FILES 4096
+#define SUNDR_TABLE_BLOCK_LEN 642
+#define SUNDR_TABLE_MAX_BLOCKS 273
+#define SUNDR_PATH_MAX_BLOCKS 3
+
+/*
+ * A block of an i-table, 642 bytes: its kind, a byte (3 a leaf, 4 above leaves, 5 above blocks of
+ * kind 4); the number of its used slots, a byte; then sixteen slots of 40 bytes, the unused ones
+ * zero. A leaf's slot is an i-number, 8 bytes, big-endian, and the file handle, 32 bytes; another
+ * block's is a child's lowest i-number and the child's SHA-256. The SHA-256 of the root is the
+ * i-handle.
+ */
+
+/*
+ * sundr_table_write: the blocks of an i-table.
+ *
+ * Reads the i-numbers numbers[0..count), strictly ascending, and a file handle of 32 bytes for
+ * each. Accepted: the first result is the number n of blocks, which are in out[0..642 * n):
+ * leaves first, the root last; the bytes of out after them are as they were. The second result
+ * is 0.
+ *
+ * Refused, with out as it was; tried in this order:
+ *   SUNDR_LENGTH          count is above 4,096, or handles_len is not 32 * count.
+ *   SUNDR_NOT_ASCENDING   first: the first i-number that is not above the one before.
+ *   SUNDR_NO_ROOM         out_len is below 642 * n.
+ */
+uint64_t sundr_table_write(const uint64_t *numbers, size_t count,
+	const uint8_t *handles, size_t handles_len,
+	uint8_t *out, size_t out_len);
+
+/*
+ * sundr_lookup: a file's handle, along a path of an i-table's blocks.
+ *
+ * Reads the i-handle, the file's i-number, and the path: one to three blocks end to end, the root
+ * first, each next one the child that the i-number leads to. Accepted: the first result is 1, and
+ * the file's handle is in out[0..32); or it is 0, the table has no such file, and out is as it
+ * was. The second result is 0.
+ *
+ * Refused, with out as it was; SUNDR_LENGTH is tried first, then each block in its turn, its hash
+ * before anything else in it, as far as the i-number leads:
+ *   SUNDR_LENGTH        handle_len or out_len is not 32, or path_len is not 642, 1,284 or 1,926.
+ *   SUNDR_WRONG_HASH    first: the block whose hash is not the i-handle, or not the one that its
+ *                       parent gives.
+ *   SUNDR_MALFORMED     first: the block that is not well formed, is not of the kind due there,
+ *                       or does not start with the i-number that its parent gives.
+ *   SUNDR_PATH_LENGTH   first: the number of blocks that were read, one more being needed, or
+ *                       others being left over.
+ */
+uint64_t sundr_lookup(const uint8_t *handle, size_t handle_len, uint64_t number,
+	const uint8_t *path, size_t path_len,
+	uint8_t *out, size_t out_len);
+
+/* The bytes of an inode, the longest file, and the bytes of each of its blocks but the last. */
+#define SUNDR_INODE_LEN 517
+#define SUNDR_FILE_MAX_LEN 131072
+#define SUNDR_FILE_BLOCK_LEN 8192
+
+/*
+ * An inode, 517 bytes: the byte 6; the length of the file, 4 bytes, big-endian; then the SHA-256 of
+ * each of its blocks of 8,192 bytes, of which the last holds the rest, and zeros up to the
+ * sixteenth. The SHA-256 of the inode is the file handle.
+ */
+
+/*
+ * sundr_block_check: whether a block is the one of that index, from 0, of a file.
+ *
+ * Reads the file handle, the file's inode, the index, and the block. Accepted: the first result is
+ * the block's offset in the file, 8,192 * index, and the second is block_len.
+ *
+ * Refused; tried in this order:
+ *   SUNDR_LENGTH       handle_len is not 32, or inode_len is not 517.
+ *   SUNDR_WRONG_HASH   the hash of the inode is not the file handle.
+ *   SUNDR_MALFORMED    the inode is not well formed.
+ *   SUNDR_NO_BLOCK     index is not below the file's number of blocks.
+ *   SUNDR_LENGTH       first 1: block_len is not the length of that block.
+ *   SUNDR_WRONG_HASH   first 1: the hash of the block is not the inode's.
+ */
+uint64_t sundr_block_check(const uint8_t *handle, size_t handle_len,
+	const uint8_t *inode, size_t inode_len, uint32_t index,
+	const uint8_t *block, size_t block_len);
+
+#ifdef __cplusplus
+}
+#endif
+
+#endif
