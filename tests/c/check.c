@@ -1,0 +1,286 @@
+/* The papers' examples of a client's check, and a server's session, through include/sundr.h. */
+#include "sundr.h"
+
+#include <string.h>
+
+#include "check.h"
+
+/* A user's version structure with two counts and an i-handle of one byte, repeated. */
+struct version {
+	uint8_t owner, handle;
+	uint32_t a, b;
+};
+
+static void put(uint8_t *at, uint32_t count)
+{
+	at[0] = (uint8_t)(count >> 24);
+	at[1] = (uint8_t)(count >> 16);
+	at[2] = (uint8_t)(count >> 8);
+	at[3] = (uint8_t)count;
+}
+
+static void encode(uint8_t record[98], struct version v)
+{
+	memset(record, 0, 98);
+	record[0] = 1;
+	record[1] = v.owner;
+	memset(record + 2, v.handle, 32);
+	put(record + 34, v.a);
+	put(record + 38, v.b);
+}
+
+/* What a client of two users is given: a memory (memory_len 0 or 98) and up to two records. */
+struct given {
+	uint8_t user, memory[98], list[2 * 98], marks[2], handle[32];
+	size_t memory_len, records;
+};
+
+static struct given given(uint8_t user)
+{
+	struct given g;
+
+	memset(&g, 0, sizeof g);
+	g.user = user;
+	memset(g.handle, 0xc7, sizeof g.handle);
+	return g;
+}
+
+static void remember(struct given *g, struct version v)
+{
+	encode(g->memory, v);
+	g->memory_len = 98;
+}
+
+static void add(struct given *g, struct version v)
+{
+	encode(g->list + 98 * g->records, v);
+	g->marks[g->records++] = 1;
+}
+
+/* The answer's bytes with room around them, so that a byte written outside is seen. */
+struct answer {
+	uint8_t before[32], out[98], after[32];
+};
+
+static uint64_t ask(const struct given *g, struct answer *a)
+{
+	memset(a, 0x5a, sizeof *a);
+	return sundr_check(2, g->user, g->memory, g->memory_len, g->list, 98 * g->records,
+		g->marks, g->records, g->handle, sizeof g->handle, a->out, sizeof a->out);
+}
+
+/* Whether the list is accepted, the new structure has these counts, and no byte beside it is written. */
+static int accepts(struct given g, uint32_t a, uint32_t b)
+{
+	struct given before = g;
+	struct answer got, due;
+	struct version new = {g.user, 0xc7, a, b};
+	uint64_t answer = ask(&g, &got);
+
+	memset(&due, 0x5a, sizeof due);
+	encode(due.out, new);
+	return answer == SUNDR_ACCEPTED && memcmp(&got, &due, sizeof due) == 0
+		&& memcmp(&g, &before, sizeof g) == 0;
+}
+
+/* Whether the list is refused with this number and these positions, and no byte is written. */
+static int refuses(struct given g, enum sundr_refusal number, uint32_t first, uint32_t second)
+{
+	struct given before = g;
+	struct answer got, due;
+	uint64_t answer = ask(&g, &got);
+
+	memset(&due, 0x5a, sizeof due);
+	return sundr_refusal(answer) == number && sundr_first(answer) == first && sundr_second(answer) == second
+		&& memcmp(&got, &due, sizeof due) == 0 && memcmp(&g, &before, sizeof g) == 0;
+}
+
+/* User 0 is A, user 1 is B; the i-handle of a structure plays no part. */
+static struct version A(uint32_t a, uint32_t b)
+{
+	struct version v = {0, 0x11, a, b};
+	return v;
+}
+
+static struct version B(uint32_t a, uint32_t b)
+{
+	struct version v = {1, 0, a, b};
+	return v;
+}
+
+static void examples(void)
+{
+	struct given g = given(0);
+
+	check("P1: A's first operation", accepts(g, 1, 0));
+
+	g = given(1);
+	add(&g, A(1, 0));
+	check("P2: B's first operation", accepts(g, 1, 1));
+
+	g = given(0);
+	remember(&g, A(1, 0));
+	add(&g, A(1, 0));
+	add(&g, B(1, 1));
+	check("P3: A's second operation", accepts(g, 2, 1));
+
+	g = given(1);
+	remember(&g, B(1, 1));
+	add(&g, A(1, 0));
+	add(&g, B(1, 1));
+	check("P4: B's second operation, a fork after P3", accepts(g, 1, 2));
+
+	g = given(1);
+	remember(&g, B(1, 2));
+	add(&g, A(2, 1));
+	add(&g, B(1, 2));
+	check("P5: the fork is not joined", refuses(g, SUNDR_UNORDERED, 0, 1));
+
+	g = given(0);
+	remember(&g, A(2, 1));
+	check("P6: an empty list, but A remembers", refuses(g, SUNDR_NOT_CURRENT, 0, 0));
+	add(&g, A(1, 0));
+	add(&g, B(1, 1));
+	check("P6: an older record of A's own", refuses(g, SUNDR_NOT_CURRENT, 0, 0));
+
+	g = given(0);
+	add(&g, B(1, 1));
+	check("P7: a record that equals the new structure", refuses(g, SUNDR_UNORDERED, 0, 1));
+
+	g = given(0);
+	add(&g, B(0, 0));
+	g.marks[0] = 0;
+	check("P8: malformed and unsigned", refuses(g, SUNDR_MALFORMED, 0, 0));
+
+	g = given(0);
+	remember(&g, A(4294967294, 0));
+	add(&g, A(4294967294, 0));
+	check("P9: the last number", accepts(g, 4294967295, 0));
+
+	g = given(0);
+	remember(&g, A(4294967295, 0));
+	add(&g, A(4294967295, 0));
+	check("P10: after the last number", refuses(g, SUNDR_LAST_VERSION, 0, 0));
+}
+
+/* Refusals that the examples do not come to, and buffers at NULL. */
+static void refusals(void)
+{
+	struct given g = given(2);
+	uint8_t out[98];
+
+	check("a user that there is not", refuses(g, SUNDR_USERS, 0, 0));
+
+	g = given(0);
+	remember(&g, A(1, 0));
+	g.memory_len = 97;
+	check("a memory of 97 bytes", refuses(g, SUNDR_LENGTH, 0, 0));
+
+	g = given(0);
+	remember(&g, B(0, 1));
+	check("a memory of another user's", refuses(g, SUNDR_MALFORMED, 16, 0));
+
+	g = given(0);
+	add(&g, B(0, 1));
+	add(&g, B(0, 1));
+	check("an owner twice", refuses(g, SUNDR_MALFORMED, 1, 0));
+
+	g = given(0);
+	remember(&g, A(1, 0));
+	add(&g, A(1, 0));
+	add(&g, B(1, 1));
+	g.marks[1] = 2;
+	check("a mark of 2", refuses(g, SUNDR_UNSIGNED, 1, 0));
+
+	g = given(0);
+	check("no memory, no list, no marks, at NULL",
+		sundr_check(1, 0, NULL, 0, NULL, 0, NULL, 0, g.handle, 32, out, 98) == SUNDR_ACCEPTED);
+	check("no room for the answer, at NULL", sundr_refusal(
+		sundr_check(1, 0, NULL, 0, NULL, 0, NULL, 0, g.handle, 32, NULL, 0)) == SUNDR_LENGTH);
+}
+
+/* Whether the server's list is these records, with the bytes after them as they were. */
+static int lists(const struct sundr_server *server, const uint8_t *records, uint32_t n)
+{
+	uint8_t got[17 * 98], due[17 * 98];
+	uint64_t answer;
+
+	memset(got, 0x5a, sizeof got);
+	memset(due, 0x5a, sizeof due);
+	if (n > 0)
+		memcpy(due, records, 98 * n);
+	answer = sundr_server_list(server, got, sizeof got);
+	return sundr_refusal(answer) == SUNDR_ACCEPTED && sundr_first(answer) == n
+		&& sundr_second(answer) == 0 && memcmp(got, due, sizeof due) == 0;
+}
+
+/* Whether a commit is refused so, and the server is as it was. */
+static int turns_away(struct sundr_server *server, struct version v, uint8_t mark,
+	enum sundr_refusal number, uint32_t first)
+{
+	struct sundr_server before = *server;
+	uint8_t record[98];
+	uint64_t answer;
+
+	encode(record, v);
+	answer = sundr_server_commit(server, record, sizeof record, mark);
+	return sundr_refusal(answer) == number && sundr_first(answer) == first && sundr_second(answer) == 0
+		&& memcmp(server, &before, sizeof before) == 0;
+}
+
+static void session(void)
+{
+	struct sundr_server server, before;
+	uint8_t records[2 * 98], out[2 * 98];
+	uint64_t answer;
+
+	check("a server has 1,569 bytes", sizeof server == SUNDR_SERVER_LEN);
+
+	memset(&server, 0xee, sizeof server);
+	before = server;
+	check("no server for no users", sundr_server_make(&server, 0) == SUNDR_USERS
+		&& memcmp(&server, &before, sizeof server) == 0);
+	check("no server for 17 users", sundr_server_make(&server, 17) == SUNDR_USERS
+		&& memcmp(&server, &before, sizeof server) == 0);
+	check("no server in 1,568 bytes", sundr_server_make_at(2, (uint8_t *)&server, 1568) == SUNDR_LENGTH
+		&& memcmp(&server, &before, sizeof server) == 0);
+	check("a server for two users", sundr_server_make(&server, 2) == SUNDR_ACCEPTED && server.users == 2);
+	check("it is empty", lists(&server, NULL, 0));
+	check("an empty list, at NULL", sundr_server_list(&server, NULL, 0) == 0);
+
+	encode(records + 98, B(0, 1));
+	check("B's first record", sundr_server_commit(&server, records + 98, 98, 1) == SUNDR_ACCEPTED);
+	check("it is listed", lists(&server, records + 98, 1));
+	encode(records, A(1, 1));
+	check("A's first record", sundr_server_commit(&server, records, 98, 1) == SUNDR_ACCEPTED);
+	check("both are listed, A first", lists(&server, records, 2));
+
+	before = server;
+	answer = sundr_server_commit(&server, records, 97, 1);
+	check("a record of 97 bytes", answer == SUNDR_LENGTH && memcmp(&server, &before, sizeof server) == 0);
+	check("a record without an own operation", turns_away(&server, A(0, 1), 0, SUNDR_MALFORMED, 0));
+	check("a record without a signature", turns_away(&server, A(2, 1), 0, SUNDR_UNSIGNED, 0));
+	check("a record twice", turns_away(&server, A(1, 1), 1, SUNDR_NOT_CURRENT, 0));
+	check("a number left out", turns_away(&server, A(3, 1), 1, SUNDR_NOT_CURRENT, 0));
+	check("A does not count B", turns_away(&server, A(2, 0), 1, SUNDR_UNORDERED, 0));
+	check("A counts too many of B", turns_away(&server, A(2, 2), 1, SUNDR_UNORDERED, 1));
+
+	encode(records, A(2, 1));
+	check("A's second record", sundr_server_commit(&server, records, 98, 1) == SUNDR_ACCEPTED);
+	check("it replaces the first", lists(&server, records, 2));
+
+	memset(out, 0x5a, sizeof out);
+	memset(records, 0x5a, sizeof records);
+	answer = sundr_server_list(&server, out, 2 * 98 - 1);
+	check("no room for the list", answer == SUNDR_NO_ROOM && memcmp(out, records, sizeof out) == 0);
+	answer = sundr_server_list_at((const uint8_t *)&server, 1568, out, sizeof out);
+	check("a server of 1,568 bytes", answer == SUNDR_LENGTH && memcmp(out, records, sizeof out) == 0);
+}
+
+int main(void)
+{
+	examples();
+	refusals();
+	session();
+	return finish();
+}

@@ -1,0 +1,70 @@
+//! The calls of libsundr.a, as include/sundr.h declares them.
+
+extern "C" {
+    pub fn sundr_sha256(message: *const u8, message_len: usize, out: *mut u8, out_len: usize) -> u64;
+
+    pub fn sundr_check(
+        users: u8,
+        user: u8,
+        memory: *const u8,
+        memory_len: usize,
+        list: *const u8,
+        list_len: usize,
+        marks: *const u8,
+        marks_len: usize,
+        handle: *const u8,
+        handle_len: usize,
+        out: *mut u8,
+        out_len: usize,
+    ) -> u64;
+
+    pub fn sundr_server_make_at(users: u8, server: *mut u8, server_len: usize) -> u64;
+    pub fn sundr_server_list_at(server: *const u8, server_len: usize, out: *mut u8, out_len: usize) -> u64;
+    pub fn sundr_server_commit(server: *mut u8, record: *const u8, record_len: usize, mark: u8) -> u64;
+
+    pub fn sundr_table_write(
+        numbers: *const u64,
+        count: usize,
+        handles: *const u8,
+        handles_len: usize,
+        out: *mut u8,
+        out_len: usize,
+    ) -> u64;
+    pub fn sundr_lookup(
+        handle: *const u8,
+        handle_len: usize,
+        number: u64,
+        path: *const u8,
+        path_len: usize,
+        out: *mut u8,
+        out_len: usize,
+    ) -> u64;
+    pub fn sundr_block_check(
+        handle: *const u8,
+        handle_len: usize,
+        inode: *const u8,
+        inode_len: usize,
+        index: u32,
+        block: *const u8,
+        block_len: usize,
+    ) -> u64;
+}
+
+/// What a call answers, unpacked from its 64 bits: two results, or a refusal's number and two positions.
+#[derive(Clone, Copy, Debug, PartialEq, Eq)]
+pub enum Answer {
+    Accepted(u32, u32),
+    Refused(u8, u32, u32),
+}
+
+impl From<u64> for Answer {
+    fn from(answer: u64) -> Answer {
+        let number = (answer & 0xff) as u8;
+        let first = ((answer >> 8) & 0xff_ffff) as u32;
+        let second = (answer >> 32) as u32;
+        match number {
+            0 => Answer::Accepted(first, second),
+            _ => Answer::Refused(number, first, second),
+        }
+    }
+}

@@ -1,0 +1,32 @@
+//! Differential tests: each call of libsundr.a against a second implementation, written from
+//! the papers alone. A piece has a file here with its checks, and one in `reference/`.
+
+mod check;
+mod desk;
+mod ffi;
+mod guarded;
+mod histories;
+mod inode;
+mod itable;
+mod lists;
+mod lookup;
+mod paths;
+mod random;
+mod reference;
+mod runner;
+mod runs;
+mod server;
+mod sha256;
+
+fn main() -> std::process::ExitCode {
+    let mut runner = runner::Runner::default();
+    sha256::checks(&mut runner);
+    check::checks(&mut runner);
+    desk::checks(&mut runner);
+    server::checks(&mut runner);
+    runs::checks(&mut runner);
+    itable::checks(&mut runner);
+    lookup::checks(&mut runner);
+    inode::checks(&mut runner);
+    runner.finish()
+}
