@@ -8,7 +8,7 @@ use borrow.Author.Tests.{eq-eqb, ne-eqb}
 use lib.Dec.{eqb}
 use lib.ListN.{getD}
 use Rattle.search.specs.Search.{find, every}
-use Rattle.search.proofs.Search.{every-at}
+use Rattle.search.proofs.Search.{every-at, some-fails, none-fails}
 use Rattle.refusal.specs.Answer.{Answer, accepted, refused}
 use Rattle.refusal.specs.Order.{inOrder, tried}
 use Rattle.refusal.proofs.Order.{passed, unless-passed}
@@ -16,16 +16,6 @@ use Rattle.protocol.specs.Version.{owner}
 use Rattle.protocol.specs.List.{records, recordAt, wellPlaced}
 use Rattle.protocol.specs.Check.{formSteps, remembers}
 use Rattle.protocol.proofs.Conditions.{well-placed}
-
--- A test over k places, by the first place at which it fails.
-module _ (p : ℕ → Bool) (k r : ℕ) (e : r ≡ find (λ i. not (p i)) 0 k) where
-  every-found : (r ≡ k → ⊥) → every p 0 k ≡ false
-  unfolding every
-  every-found h = rw (← e) (ne-eqb r (0 + k) (λ q. h (omega arith)))
-
-  every-passed : r ≡ k → every p 0 k ≡ true
-  unfolding every
-  every-passed h = rw (← e) (eq-eqb r (0 + k) (omega arith))
 
 module _ (N u : ℕ) (mem list marks : List ℕ) where
   abbrev due : Answer Unit
@@ -43,7 +33,7 @@ module _ (N u : ℕ) (mem list marks : List ℕ) where
       pub misplaced : (m ≡ k → ⊥) → refused 3 m 0 ≡ due
       unfolding formSteps inOrder
       misplaced h =
-          rw (sym e ∙ t, every-found (wellPlaced N list) (records list) m first (λ q. h (q ∙ sym ek)), sym first)
+          rw (sym e ∙ t, some-fails (wellPlaced N list) (records list) m first (λ q. h (q ∙ sym ek)), sym first)
 
       module _ (q : m ≡ k) (s : ℕ) (es : s ≡ find (λ i. not (eqb (getD marks i 0) 1)) 0 k) where
         marked : s ≡ find (λ i. not (eqb (getD marks i 0) 1)) 0 (records list)
@@ -54,8 +44,8 @@ module _ (N u : ℕ) (mem list marks : List ℕ) where
         unmarked h =
             rw (
               sym e ∙ t,
-              every-passed (wellPlaced N list) (records list) m first (q ∙ ek),
-              every-found (λ i. eqb (getD marks i 0) 1) (records list) s marked (λ z. h (z ∙ sym ek)),
+              none-fails (wellPlaced N list) (records list) m first (omega (arith, q, ek)),
+              some-fails (λ i. eqb (getD marks i 0) 1) (records list) s marked (λ z. h (z ∙ sym ek)),
               sym marked,
             )
 
@@ -64,8 +54,8 @@ module _ (N u : ℕ) (mem list marks : List ℕ) where
         all-formed z =
             rw (
               sym e ∙ t,
-              every-passed (wellPlaced N list) (records list) m first (q ∙ ek),
-              every-passed (λ i. eqb (getD marks i 0) 1) (records list) s marked (z ∙ ek),
+              none-fails (wellPlaced N list) (records list) m first (omega (arith, q, ek)),
+              none-fails (λ i. eqb (getD marks i 0) 1) (records list) s marked (omega (arith, z, ek)),
             )
 
   -- Where the stage passes, each record's owner is a user.

@@ -27,6 +27,10 @@ pub record Means (T : Level) (i : ℕ) : Type 0 where
 abbrev pub EntryMeans : Type 0
 EntryMeans = (T : Level) → IsTable T → (i : ℕ) → Means T i
 
+-- "At most 273 blocks."
+abbrev pub AtMostBlocks : Type 0
+AtMostBlocks = (n : ℕ) → n ≤ 4096 → blocks n ≤ 273
+
 -- The path of the blocks of these indices, out of blocks end to end.
 unfoldable pub pathOf : List ℕ → List ℕ → List ℕ
 pathOf bytes [] = []

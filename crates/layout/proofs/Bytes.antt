@@ -3,7 +3,7 @@ use Prim.Native.Nat.{ℕ, _+_, _≤_}
 use mathlib.Core.List.{List, _++_}
 use mathlib.Core.Path.{_≡_, refl}
 use native.Mathlib.Omega.{arith}
-use lib.ListN.{length, take, drop, List·getD-append, List·getD-eq-default}
+use lib.ListN.{length, take, drop, List·getD-eq-default}
 use lib.Seq.{getD-append-add, getD-take, getD-drop}
 use Rattle.layout.specs.Bytes.{four, bytes4}
 
@@ -15,7 +15,7 @@ pub length-bytes4 : (x : ℕ) → length (bytes4 x) ≡ 4
 unfolding bytes4
 length-bytes4 x = refl
 
--- Behind xs, and in front of ys.
+-- Behind xs.
 pub four-behind : (xs ys : List ℕ) (i : ℕ) → four (xs ++ ys) (length xs + i) ≡ four ys i
 unfolding four
 four-behind xs ys i =
@@ -23,16 +23,6 @@ four-behind xs ys i =
     let b : length xs + i + 2 ≡ length xs + (i + 2) = omega arith in
     let c : length xs + i + 3 ≡ length xs + (i + 3) = omega arith in
     rw (a, b, c, getD-append-add xs ys i 0, getD-append-add xs ys (i + 1) 0, getD-append-add xs ys (i + 2) 0, getD-append-add xs ys (i + 3) 0)
-
-pub four-front : (xs ys : List ℕ) (i : ℕ) → i + 4 ≤ length xs → four (xs ++ ys) i ≡ four xs i
-unfolding four
-four-front xs ys i h =
-    rw (
-      List·getD-append xs ys 0 i (omega arith),
-      List·getD-append xs ys 0 (i + 1) (omega arith),
-      List·getD-append xs ys 0 (i + 2) (omega arith),
-      List·getD-append xs ys 0 (i + 3) (omega arith),
-    )
 
 -- Past the end.
 pub four-past : (xs : List ℕ) (i : ℕ) → length xs ≤ i → four xs i ≡ 0

@@ -9,10 +9,11 @@ use native.Mathlib.Decide.{decLt}
 use native.Mathlib.Omega.{arith}
 use lib.Dec.{leb, eqb}
 use lib.ListN.{length, take, drop, replicate, length-append, length-drop, length-replicate, take-append-drop, getD-replicate}
-use lib.Seq.{length-take-le, take-at, drop-at, take-append-le, drop-append-le, drop-append-add, drop-drop}
+use lib.Seq.{length-take-le, drop-append-add, drop-drop}
 use borrow.Author.Tests.{eqb-true, ne-eqb, eq-eqb, le-leb}
 use Rattle.layout.specs.Bytes.{four, part}
 use Rattle.layout.proofs.Bytes.{four-past, four-part}
+use Rattle.layout.proofs.Parts.{part-append, part-at}
 use Rattle.search.proofs.Bool.{bool-cases}
 use Rattle.refusal.specs.Answer.{Answer, accepted}
 use Rattle.refusal.specs.Result.{left}
@@ -26,16 +27,8 @@ use Rattle.protocol.specs.Server.{empty, make, made, slot, held, heldOwn
 pub count-none : (v : ℕ) → count [] v ≡ 0
 count-none v = four-past [] (34 + 4 * v) (omega arith)
 
--- A part that lies in front does not see what stands behind.
-part-front-of : (n : ℕ) (xs ys : List ℕ) (i : ℕ) → n * i + n ≤ length xs → part n (xs ++ ys) i ≡ part n xs i
-part-front-of n xs ys i h =
-    rw (drop-append-le (n * i) xs ys (omega arith)) (take-append-le n (drop (n * i) xs) ys (simp length-drop (omega arith)))
-
--- Where a part stands between what is before it and what is behind it: the part, and what is behind.
+-- What stands behind a part that stands behind others.
 module _ (before x behind : List ℕ) (n o : ℕ) (b : length before ≡ n * o) (h : length x ≡ n) where
-  part-between : part n (before ++ (x ++ behind)) o ≡ x
-  part-between = rw (drop-at before (x ++ behind) (n * o) b) (take-at x behind n h)
-
   drop-between : (d : ℕ) → drop (n * o + n + d) (before ++ (x ++ behind)) ≡ drop d behind
   drop-between d =
       let e : n * o + n + d ≡ length (before ++ x) + d = simp length-append (omega arith) in
@@ -52,15 +45,14 @@ module _ (s : Server) (x : List ℕ) (long : length (s .records) ≡ 1568) (h : 
   pub slot-same : slot (replaced s x) (owner x) ≡ x
   unfolding replaced
   slot-same =
-      part-between (take (size * owner x) (s .records)) x (drop (size * owner x + size) (s .records)) size (owner x)
-      before-length h
+      part-at size (take (size * owner x) (s .records)) x (drop (size * owner x + size) (s .records)) (owner x) before-length h
 
   slot-below : (v : ℕ) → v < owner x → slot (replaced s x) v ≡ slot s v
   unfolding replaced
   slot-below v l =
       let f : size * v + size ≤ length (take (size * owner x) (s .records)) = omega (arith, before-length) in
-      part-front-of size (take (size * owner x) (s .records)) (x ++ drop (size * owner x + size) (s .records)) v f ∙
-      (sym (part-front-of size (take (size * owner x) (s .records)) (drop (size * owner x) (s .records)) v f) ∙
+      part-append size (take (size * owner x) (s .records)) (x ++ drop (size * owner x + size) (s .records)) v f ∙
+      (sym (part-append size (take (size * owner x) (s .records)) (drop (size * owner x) (s .records)) v f) ∙
       ap (λ (r : List ℕ). part size r v) (take-append-drop (size * owner x) (s .records)))
 
   slot-above : (v : ℕ) → owner x < v → slot (replaced s x) v ≡ slot s v

@@ -8,7 +8,7 @@ use native.Mathlib.Decide.{decLt}
 use native.Mathlib.Nat.{eq-or-lt-of-le}
 use native.Mathlib.Omega.{arith}
 use lib.Dec.{eqb}
-use borrow.Author.Tests.{eqb-true, eqb-false, eq-eqb, not-true, not-false}
+use borrow.Author.Tests.{eqb-true, eqb-false, eq-eqb, ne-eqb, not-true, not-false}
 use Rattle.search.specs.Search.{find, every, same}
 use Rattle.search.proofs.Bool.{not-both, bool-cases}
 
@@ -104,6 +104,17 @@ first-failure p i k e =
     let ne : find (λ v. not (p v)) i k ≡ i + k → ⊥ = eqb-false _ _ e in
     let l : find (λ v. not (p v)) i k < i + k = ⊎-elim (λ q. absurd (ne q)) (λ q. q) (eq-or-lt-of-le (f .within)) in
     (l, not-true (p (find (λ v. not (p v)) i k)) (f .hit l))
+
+-- A test over k places, by the first place at which it fails.
+module _ (p : ℕ → Bool) (k r : ℕ) (e : r ≡ find (λ i. not (p i)) 0 k) where
+  pub some-fails : (r ≡ k → ⊥) → every p 0 k ≡ false
+  unfolding every
+  some-fails h = rw (← e) (ne-eqb r (0 + k) (λ q. h (omega arith)))
+
+  pub none-fails : k ≤ r → every p 0 k ≡ true
+  unfolding every
+  none-fails h =
+      let w : r ≤ k = omega (arith, found (λ i. not (p i)) 0 k .within) in rw (← e) (eq-eqb r (0 + k) (omega arith))
 
 pub every-cong : (p q : ℕ → Bool) (i k : ℕ) → ((j : ℕ) → i ≤ j → j < i + k → p j ≡ q j) → every p i k ≡ every q i k
 unfolding every

@@ -8,7 +8,7 @@ use lib.Dec.{eqb}
 use lib.ListN.{length, getD}
 use borrow.Author.Tests.{eq-eqb, ne-eqb, eqb-true}
 use Rattle.search.specs.Search.{find, every}
-use Rattle.search.proofs.Search.{found}
+use Rattle.search.proofs.Search.{some-fails, none-fails}
 use Rattle.refusal.specs.Answer.{accepted, refused}
 use Rattle.refusal.specs.Order.{inOrder, tried}
 use Rattle.refusal.proofs.Order.{passed, unless-passed}
@@ -33,16 +33,6 @@ pub next-read :
     eqb (own x) (heldOwn s (owner x) + 1) ≡ b
 next-read s x f h b u e eh eb = rw (eb, eh, e, owner-fields x, held-own s (owner x), count-fields x (owner x) u)
 
--- Test 7 by the first user at whom it fails.
-module _ (p : ℕ → Bool) (v : ℕ) (e : v ≡ find (λ i. not (p i)) 0 16) where
-  some-fails : v < 16 → every p 0 16 ≡ false
-  unfolding every
-  some-fails h = rw (sym e) (ne-eqb v 16 (λ q. omega arith))
-
-  none-fails : 16 ≤ v → every p 0 16 ≡ true
-  unfolding every
-  none-fails h = rw (sym e) (eq-eqb v 16 (omega (arith, found (λ i. not (p i)) 0 16 .within)))
-
 module _ (s : Server) (x : List ℕ) (mark : ℕ) where
   pub other-length : (length x ≡ size → ⊥) → refused 2 0 0 ≡ tried (commitSteps s x mark)
   unfolding commitSteps inOrder
@@ -66,11 +56,11 @@ module _ (s : Server) (x : List ℕ) (mark : ℕ) where
         module _ (n : eqb (own x) (heldOwn s (owner x) + 1) ≡ true) (v : ℕ) (e : v ≡ find (λ i. not (follows s x i)) 0 16) where
           pub apart : v < 16 → refused 7 v 0 ≡ tried (commitSteps s x mark)
           unfolding commitSteps inOrder
-          apart h = rw (eq-eqb (length x) size l, w, eq-eqb mark 1 m, n, some-fails (follows s x) v e h, sym e)
+          apart h = rw (eq-eqb (length x) size l, w, eq-eqb mark 1 m, n, some-fails (follows s x) 16 v e (λ q. omega arith), sym e)
 
           pub passes : 16 ≤ v → accepted tt ≡ tried (commitSteps s x mark)
           unfolding commitSteps inOrder
-          passes h = rw (eq-eqb (length x) size l, w, eq-eqb mark 1 m, n, none-fails (follows s x) v e h)
+          passes h = rw (eq-eqb (length x) size l, w, eq-eqb mark 1 m, n, none-fails (follows s x) 16 v e h)
 
   -- A record that passes has its length, and one of the sixteen users for its owner.
   pub owned : accepted tt ≡ tried (commitSteps s x mark) → (length x ≡ size) × (owner x < 16)

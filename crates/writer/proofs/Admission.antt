@@ -7,7 +7,7 @@ use native.Mathlib.Omega.{arith}
 use lib.ListN.{length}
 use borrow.Author.Tests.{eq-eqb, ne-eqb, le-leb, lt-leb}
 use Rattle.search.specs.Search.{find, every}
-use Rattle.search.proofs.Search.{found}
+use Rattle.search.proofs.Search.{some-fails, none-fails}
 use Rattle.refusal.specs.Answer.{accepted, refused}
 use Rattle.refusal.specs.Order.{inOrder, tried}
 use Rattle.itable.specs.Table.{blocks}
@@ -24,30 +24,20 @@ module _ (nums handles : List ℕ) (room : ℕ) where
     not-handled h = rw (le-leb (length nums) 4096 few, ne-eqb (length handles) (32 * length nums) h)
 
     module _ (handled : length handles ≡ 32 * length nums) (i : ℕ) (ei : i ≡ find (λ m. not (numberAbove nums m)) 0 (length nums)) where
-      some-not : i < length nums → every (numberAbove nums) 0 (length nums) ≡ false
-      unfolding every
-      some-not h = ne-eqb (find (λ m. not (numberAbove nums m)) 0 (length nums)) (0 + length nums) (λ e. omega arith)
-
       pub not-ascending : i < length nums → refused 11 i 0 ≡ tried (writeSteps nums handles room)
       unfolding writeSteps inOrder
       not-ascending h =
-          rw (le-leb (length nums) 4096 few, eq-eqb (length handles) (32 * length nums) handled, some-not h)
+          rw (le-leb (length nums) 4096 few, eq-eqb (length handles) (32 * length nums) handled, some-fails (numberAbove nums) (length nums) i ei (λ q. omega arith))
           (ap (λ m. refused 11 m 0) ei)
 
       module _ (all : length nums ≤ i) (b : ℕ) (eb : b ≡ blocks (length nums)) where
-        none-not : every (numberAbove nums) 0 (length nums) ≡ true
-        unfolding every
-        none-not =
-            eq-eqb (find (λ m. not (numberAbove nums m)) 0 (length nums)) (0 + length nums)
-            (omega (arith, found (λ m. not (numberAbove nums m)) 0 (length nums) .within))
-
         pub no-room : room < 642 * b → refused 12 0 0 ≡ tried (writeSteps nums handles room)
         unfolding writeSteps inOrder
         no-room h =
             rw (
               le-leb (length nums) 4096 few,
               eq-eqb (length handles) (32 * length nums) handled,
-              none-not,
+              none-fails (numberAbove nums) (length nums) i ei all,
               sym eb,
               lt-leb (642 * b) room h,
             )
@@ -58,7 +48,7 @@ module _ (nums handles : List ℕ) (room : ℕ) where
             rw (
               le-leb (length nums) 4096 few,
               eq-eqb (length handles) (32 * length nums) handled,
-              none-not,
+              none-fails (numberAbove nums) (length nums) i ei all,
               sym eb,
               le-leb (642 * b) room h,
             )
