@@ -6,6 +6,7 @@ use lib.ListN.{replicate}
 use Rattle.refusal.specs.Answer.{Answer, accepted, refused}
 use Rattle.itable.specs.Inode.{fileBlocks}
 use Rattle.itable.specs.Table.{blocks}
+use Rattle.protocol.specs.Version.{size}
 use Rattle.protocol.specs.Check.{check}
 use Rattle.protocol.specs.ForkedRun.{counting}
 
@@ -26,7 +27,7 @@ Holds (file bytes due) = fileBlocks bytes ≡ due
 
 -- A check of the examples: N is 2, the handle is zero, the room is right.
 abbrev pub ofTwo : ℕ → List ℕ → List ℕ → List ℕ → Answer (List ℕ) → Example
-ofTwo u mem list marks = client-check 2 u mem list marks (replicate 32 0) 98
+ofTwo u mem list marks = client-check 2 u mem list marks (replicate 32 0) size
 
 -- [a,b] of A, and of B.
 abbrev pub A : ℕ → ℕ → List ℕ

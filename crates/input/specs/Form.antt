@@ -5,6 +5,7 @@ use mathlib.Core.List.{List, [], _++_}
 use lib.Dec.{leb, eqb}
 use lib.ListN.{length, getD, take, drop}
 use Rattle.layout.specs.Bytes.{part, parts, values}
+use Rattle.protocol.specs.Version.{size}
 
 -- "It reads standard input: N, u (a byte each), 32 bytes of handle, a flag byte 0 or 1,"
 abbrev pub users : List ℕ → ℕ
@@ -21,7 +22,7 @@ flag input = getD input 34 0
 
 -- "if 1 the remembered 98 bytes,": the remembered structure, or no bytes for none.
 unfoldable pub memory : List ℕ → List ℕ
-memory input = cond (eqb (flag input) 1) (take 98 (drop 35 input)) []
+memory input = cond (eqb (flag input) 1) (take size (drop 35 input)) []
 
 -- The place behind it.
 unfoldable pub behindMemory : ℕ → ℕ

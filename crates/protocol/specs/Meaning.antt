@@ -6,7 +6,7 @@ use mathlib.Core.Path.{_≡_}
 use lib.ListN.{length, getD, take, drop}
 use Rattle.search.specs.First.{First, FirstPair}
 use Rattle.refusal.specs.Answer.{accepted, refused}
-use Rattle.protocol.specs.Version.{kind, owner, count, own}
+use Rattle.protocol.specs.Version.{size, kind, owner, count, own}
 use Rattle.protocol.specs.List.{records, recordAt}
 use Rattle.protocol.specs.Check.{lastCount, next}
 use Rattle.protocol.specs.History.{Call, called}
@@ -33,12 +33,12 @@ Users N u = (1 ≤ N) × (N ≤ 16) × (u < N)
 
 -- 2: every length is the stated one; the list is of whole records, N at most, with a mark for each.
 pub record Sizes (N : ℕ) (mem : List ℕ) (c : Call) : Type 0 where
-  pub none-or-one : (length mem ≡ 0) ⊎ (length mem ≡ 98)
-  pub whole : 98 * records (c .list) ≡ length (c .list)
+  pub none-or-one : (length mem ≡ 0) ⊎ (length mem ≡ size)
+  pub whole : size * records (c .list) ≡ length (c .list)
   pub at-most : records (c .list) ≤ N
   pub one-mark-each : length (c .marks) ≡ records (c .list)
   pub handle-long : length (c .handle) ≡ 32
-  pub answer-long : c .room ≡ 98
+  pub answer-long : c .room ≡ size
 
 -- 3: what is remembered is none, or well formed and u's own.
 abbrev pub Remembered : ℕ → ℕ → List ℕ → Type 0
@@ -118,7 +118,7 @@ CheckMeans =
 -- "The new structure has owner u and that handle; for each other user its count is that user's own count in its list record, or 0; for u
 -- it is the remembered own count plus 1, or 1."
 pub record New (mem : List ℕ) (c : Call) (x : List ℕ) : Type 0 where
-  pub long : length x ≡ 98
+  pub long : length x ≡ size
   pub kind-one : kind x ≡ 1
   pub owned : owner x ≡ c .user
   pub handle-held : take 32 (drop 2 x) ≡ c .handle
