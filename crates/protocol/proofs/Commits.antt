@@ -85,18 +85,21 @@ module _ (s t : Server) where
 pub record Committed (s : Server) (x : List ℕ) (t : Server) : Type 0 where
   pub whole : length x ≡ size
   pub owned : owner x < 16
+  pub formed : wellFormed (s .users) x ≡ true
   pub next-own : own x ≡ heldOwn s (owner x) + 1
   pub result : t ≡ replaced s x
 
 module _ (s : Server) (x : List ℕ) (mark : ℕ) where
-  committed : (t : Server) → commit s x mark ≡ accepted t → Committed s x t
+  pub committed : (t : Server) → commit s x mark ≡ accepted t → Committed s x t
   unfolding commit commitSteps
   committed t e =
       let p = passed (commitSteps s x mark) e in
       let w : length x ≡ size = eqb-true (length x) size (unless-passed (eqb (length x) size) 2 0 0 (p .0 .0)) in
+      let f : wellFormed (s .users) x ≡ true = unless-passed (wellFormed (s .users) x) 3 0 0 (p .0 .1 .0) in
       record {
         whole = w;
-        owned = owner-below (s .users) x w (unless-passed (wellFormed (s .users) x) 3 0 0 (p .0 .1 .0));
+        owned = owner-below (s .users) x w f;
+        formed = f;
         next-own =
             eqb-true (own x) (heldOwn s (owner x) + 1) (unless-passed (eqb (own x) (heldOwn s (owner x) + 1)) 5 0 0 (p .0 .1 .1 .1 .0));
         result = cc (p .1);
@@ -128,7 +131,7 @@ module _ (s : Server) (x : List ℕ) (mark : ℕ) where
         go (refused n p q) e = omega arith
 
 module _ (N : ℕ) where
-  after-length : (calls : List ServerCall) → length (serverAfter N calls .records) ≡ 1568
+  pub after-length : (calls : List ServerCall) → length (serverAfter N calls .records) ≡ 1568
   unfolding serverAfter
   after-length [] = let m = made-empty N in rw (m .1) (empty-length (m .0))
   after-length (list buffer ∷ earlier) = after-length earlier

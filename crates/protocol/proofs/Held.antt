@@ -5,7 +5,7 @@ use mathlib.Core.Bool.{Bool, true, false, cond}
 use mathlib.Core.List.{List, [], _∷_, _++_, append-assoc}
 use mathlib.Core.Logic.{⊎-elim}
 use mathlib.Core.Path.{_≡_, refl, sym, ap, _∙_}
-use native.Mathlib.Decide.{decLt}
+use native.Mathlib.Decide.{decLt, ℕ-discrete}
 use native.Mathlib.Omega.{arith}
 use lib.Dec.{leb, eqb}
 use lib.ListN.{length, take, drop, replicate, length-append, length-drop, length-replicate, take-append-drop, getD-replicate}
@@ -20,7 +20,7 @@ use Rattle.refusal.specs.Result.{left}
 use Rattle.refusal.specs.Order.{unless, inOrder}
 use Rattle.refusal.proofs.Order.{passing}
 use Rattle.protocol.specs.declared.Server.{Server}
-use Rattle.protocol.specs.Version.{size, owner, count}
+use Rattle.protocol.specs.Version.{size, owner, count, own}
 use Rattle.protocol.specs.Server.{empty, make, made, slot, held, heldOwn, replaced}
 
 -- No bytes count none.
@@ -84,9 +84,26 @@ unfolding held
 held-slot s v n = rw (ne-eqb (count (slot s v) v) 0 n)
 
 -- Equal places hold the same.
-pub held-cong : (s t : Server) (v : ℕ) → slot s v ≡ slot t v → held s v ≡ held t v
+held-cong : (s t : Server) (v : ℕ) → slot s v ≡ slot t v → held s v ≡ held t v
 unfolding held
 held-cong s t v e = rw e
+
+-- After a record of a count replaces its owner's, that record is held of its owner, and of every other user what was held before: so what
+-- holds of the record, and of all else held before, holds of what is held now.
+module _ (s : Server) (x : List ℕ) (long : length (s .records) ≡ 1568) (h : length x ≡ size) (o : owner x < 16) (c : own x ≡ 0 → ⊥) where
+  held-same : held (replaced s x) (owner x) ≡ x
+  held-same =
+      let e : slot (replaced s x) (owner x) ≡ x = slot-same s x long h o in
+      held-slot (replaced s x) (owner x) (λ z. c (ap (λ (r : List ℕ). count r (owner x)) (sym e) ∙ z)) ∙ e
+
+  pub now-or-still :
+      (P : ℕ → List ℕ → Type 0) → P (owner x) x → ((v : ℕ) → (v ≡ owner x → ⊥) → P v (held s v)) →
+      (v : ℕ) → P v (held (replaced s x) v)
+  now-or-still P new old v =
+      elim (ℕ-discrete v (owner x)) [
+        | yes e ↦ rw (e, held-same) new
+        | no n ↦ rw (held-cong (replaced s x) s v (slot-other s x long h o v n)) (old v n)
+      ]
 
 -- Zeros count none, in any place.
 count-zeros : (n v : ℕ) → v < 16 → size * v + size ≤ n → count (part size (replicate n 0) v) v ≡ 0

@@ -31,7 +31,8 @@ use Rattle.protocol.specs.Check.{
   check,
 }
 use Rattle.protocol.specs.Server.{held, heldOwn, allHeld, follows, replaced, commitSteps, commit}
-use Rattle.protocol.proofs.Listing.{Kept, Listed}
+use Rattle.protocol.proofs.Listing.{Kept, Listed, listing-placed}
+use Rattle.protocol.proofs.Conditions.{well-placed}
 use Rattle.protocol.proofs.Honest.{
   Ready,
   made-next,
@@ -90,16 +91,7 @@ module _ {N : ℕ} {s : Server} {memory : ℕ → List ℕ} {u : ℕ} {handle : 
   )
 
   placed : (i : ℕ) → i < records (allHeld s) → wellPlaced N (allHeld s) i ≡ true
-  unfolding wellPlaced
-  placed zero l = rw (all-listed r .each 0 l .proper .formed)
-  placed (suc i) l =
-      let e : suc i - 1 ≡ i = omega arith in
-      rw (
-        all-listed r .each (suc i) l .proper .formed,
-        e,
-        lt-ltb (owner (recordAt (allHeld s) i)) (owner (recordAt (allHeld s) (suc i))) (all-listed r .ascending i l),
-      )
-      (right-true (eqb (suc i) 0) true refl)
+  placed i l = well-placed N (allHeld s) i .1 (listing-placed (all-listed r) i l)
 
   forms : Passing (formSteps N u (held s u) (allHeld s) (replicate (records (allHeld s)) 1))
   unfolding formSteps

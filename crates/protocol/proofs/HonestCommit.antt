@@ -4,16 +4,16 @@ use mathlib.Core.Bool.{true, cond, _||_}
 use mathlib.Core.List.{List}
 use mathlib.Core.Logic.{inr}
 use mathlib.Core.Path.{_≡_, refl, sym, ap, _∙_}
-use native.Mathlib.Decide.{ℕ-discrete}
 use native.Mathlib.Omega.{arith}
 use lib.Dec.{eqb}
 use borrow.Author.Tests.{eq-eqb, ne-eqb}
 use Rattle.search.proofs.Bool.{left-true, right-true}
 use Rattle.protocol.specs.declared.Server.{Server}
 use Rattle.protocol.specs.Version.{owner, count, atOrBefore}
-use Rattle.protocol.specs.Server.{held, heldOwn, slot, replaced}
+use Rattle.protocol.specs.Server.{held, heldOwn, replaced}
 use Rattle.protocol.proofs.Version.{before-intro, strictly-before}
-use Rattle.protocol.proofs.Held.{replaced-length, slot-same, slot-other, held-slot, held-cong}
+use Rattle.protocol.proofs.Held as Held
+use Rattle.protocol.proofs.Held.{replaced-length}
 use Rattle.protocol.proofs.Listing.{Kept}
 use Rattle.protocol.proofs.Honest.{
   Steady,
@@ -31,27 +31,12 @@ module _ {N : ℕ} {s : Server} {memory : ℕ → List ℕ} {u : ℕ} {handle : 
   owned : owner (made-next r) < 16
   owned = omega (arith, next-owner r, r .small, r .user)
 
-  held-now : held (replaced s (made-next r)) u ≡ made-next r
-  held-now =
-      let e : slot (replaced s (made-next r)) u ≡ made-next r =
-      ap (slot (replaced s (made-next r))) (sym (next-owner r)) ∙
-      slot-same s (made-next r) (r .steady .long) (next-length r) owned
-      in
-      held-slot (replaced s (made-next r)) u
-      (λ z. let c : count (slot (replaced s (made-next r)) u) u ≡ count (made-next r) u = ap (λ (x : List ℕ). count x u) e in omega (arith, next-own r)) ∙ e
-
-  held-still : (v : ℕ) → (v ≡ u → ⊥) → held (replaced s (made-next r)) v ≡ held s v
-  held-still v n =
-      held-cong (replaced s (made-next r)) s v
-      (slot-other s (made-next r) (r .steady .long) (next-length r) owned v (λ e. n (e ∙ next-owner r)))
-
   -- What holds of the new structure, and of every other held before, holds of what is held now.
   pub now-or-still : (P : ℕ → List ℕ → Type 0) → P u (made-next r) → ((v : ℕ) → (v ≡ u → ⊥) → P v (held s v)) → (v : ℕ) → P v (held (replaced s (made-next r)) v)
-  now-or-still P new old v =
-      elim (ℕ-discrete v u) [
-        | yes e ↦ rw (e, held-now) new
-        | no n ↦ rw (held-still v n) (old v n)
-      ]
+  now-or-still P new old =
+      Held.now-or-still s (made-next r) (r .steady .long) (next-length r) owned
+      (λ z. omega (arith, next-own r, ap (count (made-next r)) (next-owner r))) P (rw (next-owner r) new)
+      (λ v n. old v (λ e. n (e ∙ sym (next-owner r))))
 
   counted-now :
       (w v : ℕ) → v < 16 → w < 16 → count (held (replaced s (made-next r)) v) w ≤ count (held (replaced s (made-next r)) w) w

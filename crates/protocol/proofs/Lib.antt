@@ -12,6 +12,7 @@ pub mod ForkedRun
 pub mod Held
 pub mod Commits
 pub mod Listing
+pub mod Listings
 pub mod Honest
 pub mod HonestCheck
 pub mod HonestCommit

@@ -19,6 +19,8 @@ use Rattle.protocol.specs.declared.Server.{Server}
 use Rattle.protocol.specs.Version.{size, owner, wellFormed}
 use Rattle.protocol.specs.List.{records, recordAt, entry}
 use Rattle.protocol.specs.Server.{held, heldFrom}
+use Rattle.protocol.specs.Meaning.{WellPlaced}
+use Rattle.protocol.proofs.Conditions.{well-formed}
 
 -- User v's own structure, well formed for N.
 pub record Proper (N v : ℕ) (x : List ℕ) : Type 0 where
@@ -158,3 +160,12 @@ module _ (N : ℕ) (s : Server) (kept : (v : ℕ) → v < 16 → Kept N v (held 
 
     pub entry-held : entry list w ≡ held s w
     entry-held = ⊎-elim (λ e. entry-none e ∙ sym e) entry-some (kept w (omega arith))
+
+-- Each record of the list is well placed.
+pub listing-placed :
+    {N : ℕ} {s : Server} {v k : ℕ} {list : List ℕ} → Listing N s v k list → (i : ℕ) → i < records list → WellPlaced N list i
+listing-placed {N} {s} {v} {k} {list} l i h = (well-formed N (recordAt list i) .0 (l .each i h .proper .formed), above i h)
+  where
+    above : (j : ℕ) → j < records list → 0 < j → owner (recordAt list (j - 1)) < owner (recordAt list j)
+    above zero m z = absurd (omega arith)
+    above (suc j) m z = let e : suc j - 1 ≡ j = omega arith in rw e (l .ascending j m)

@@ -10,3 +10,4 @@ pub mod ForkedRun
 pub mod Turns
 pub mod TwoUsers
 pub mod Commits
+pub mod Listings
