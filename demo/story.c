@@ -1,8 +1,8 @@
 /*
  * The order's story, replayed: a driver tree on a server that nobody trusts, a maintainer and a
- * release desk. Each step calls the library, and each check of a list is also put to the desk
- * program, whose own output stands behind a bar. Whatever comes out otherwise than told ends the
- * program with status 1.
+ * release desk. Each step calls the library, and each check of a list that is shown is also put to
+ * the desk program, whose own output stands behind a bar and has to say the same. Whatever comes
+ * out otherwise than told ends the program with status 1.
  *
  *     story PATH_OF_DESK
  */
@@ -11,6 +11,7 @@
 #include <stdio.h>
 #include <stdlib.h>
 #include <string.h>
+#include <unistd.h>
 
 #include "sundr.h"
 
@@ -63,36 +64,82 @@ static struct sent send_list(const struct sundr_server *server)
 	return sent;
 }
 
-/* Puts the same question to the desk program, and shows what it prints. */
-static void show_desk(const struct client *client, const struct sent *sent, const uint8_t *handle)
+/* How many operations of a user a version structure counts. */
+static uint32_t count(const uint8_t *version, int user)
 {
-	char command[512];
-	FILE *program;
-	size_t i;
+	const uint8_t *at = version + 34 + 4 * user;
 
-	snprintf(command, sizeof command, "'%s' | sed 's/^/    | /'", desk);
-	program = popen(command, "w");
-	must(program != NULL, "the desk program");
-	fputc(USERS, program);
-	fputc(client->user, program);
-	fwrite(handle, 1, SUNDR_HANDLE_LEN, program);
-	fputc(client->memory_len != 0, program);
-	fwrite(client->memory, 1, client->memory_len, program);
-	for (i = 0; i < sent->records; i++) {
-		fputc(sent->marks[i], program);
-		fwrite(sent->list + SUNDR_VERSION_LEN * i, 1, SUNDR_VERSION_LEN, program);
-	}
-	must(pclose(program) == 0, "the desk program's end");
+	return (uint32_t)at[0] << 24 | (uint32_t)at[1] << 16 | (uint32_t)at[2] << 8 | at[3];
 }
 
-/* The client's check of what the server sent; accepted, it signs the answer and remembers it. */
-static uint64_t check(struct client *client, const struct sent *sent, const uint8_t *handle)
+/* The lines that say a check's answer, as the desk program has to print them. */
+static void say(uint8_t user, uint64_t answer, const uint8_t *next, char *lines, size_t size)
+{
+	int at = snprintf(lines, size, "desk %d of %d\n", user, USERS);
+
+	if (sundr_refusal(answer) == SUNDR_ACCEPTED)
+		snprintf(lines + at, size - at, "accept %u %u\n", count(next, MAINTAINER), count(next, RELEASE));
+	else
+		snprintf(lines + at, size - at, "refuse %d %u %u\n",
+			sundr_refusal(answer), sundr_first(answer), sundr_second(answer));
+}
+
+/* A check as the desk program's input, from the start of a file. */
+static FILE *input(const struct client *client, const struct sent *sent, const uint8_t *handle)
+{
+	FILE *file = tmpfile();
+	size_t i;
+
+	must(file != NULL, "a file for the desk program's input");
+	fputc(USERS, file);
+	fputc(client->user, file);
+	fwrite(handle, 1, SUNDR_HANDLE_LEN, file);
+	fputc(client->memory_len != 0, file);
+	fwrite(client->memory, 1, client->memory_len, file);
+	for (i = 0; i < sent->records; i++) {
+		fputc(sent->marks[i], file);
+		fwrite(sent->list + SUNDR_VERSION_LEN * i, 1, SUNDR_VERSION_LEN, file);
+	}
+	rewind(file);
+	return file;
+}
+
+/* Runs the desk program on an input, and shows what it prints, which has to be these lines. */
+static void show_desk(FILE *from, const char *due)
+{
+	char command[512], printed[512];
+	size_t len, i;
+	FILE *program;
+
+	must(dup2(fileno(from), STDIN_FILENO) == STDIN_FILENO, "the desk program's input");
+	fclose(from);
+	snprintf(command, sizeof command, "'%s'", desk);
+	program = popen(command, "r");
+	must(program != NULL, "the desk program");
+	len = fread(printed, 1, sizeof printed, program);
+	for (i = 0; i < len; i++)
+		printf("%s%c", i == 0 || printed[i - 1] == '\n' ? "    | " : "", printed[i]);
+	fflush(stdout);
+	must(pclose(program) == 0, "the desk program's end");
+	must(len == strlen(due) && memcmp(printed, due, len) == 0, "what the desk program prints");
+}
+
+/*
+ * The client's check of what the server sent, by the library, and where it is shown by the desk
+ * program too; accepted, the client signs the answer and remembers it.
+ */
+static uint64_t check(struct client *client, const struct sent *sent, const uint8_t *handle, int shown)
 {
 	uint8_t next[SUNDR_VERSION_LEN];
 	uint64_t answer = sundr_check(USERS, client->user, client->memory, client->memory_len,
 		sent->list, SUNDR_VERSION_LEN * sent->records, sent->marks, sent->records,
 		handle, SUNDR_HANDLE_LEN, next, sizeof next);
+	char lines[64];
 
+	if (shown) {
+		say(client->user, answer, next, lines, sizeof lines);
+		show_desk(input(client, sent, handle), lines);
+	}
 	if (sundr_refusal(answer) == SUNDR_ACCEPTED) {
 		memcpy(client->memory, next, sizeof next);
 		client->memory_len = sizeof next;
@@ -105,9 +152,7 @@ static void turn(struct client *client, struct sundr_server *server, const uint8
 {
 	struct sent sent = send_list(server);
 
-	if (shown)
-		show_desk(client, &sent, handle);
-	must(sundr_refusal(check(client, &sent, handle)) == SUNDR_ACCEPTED, "an honest turn's check");
+	must(sundr_refusal(check(client, &sent, handle, shown)) == SUNDR_ACCEPTED, "an honest turn's check");
 	must(sundr_refusal(sundr_server_commit(server, client->memory, client->memory_len, 1)) == SUNDR_ACCEPTED,
 		"an honest turn's commit");
 }
@@ -177,7 +222,7 @@ int main(int argc, char **argv)
 	desk = argv[1];
 	grow(&old, "channels 1 to 11");
 	grow(&corrected, "channels 1 to 13");
-	must(sundr_refusal(sundr_server_make(&server, USERS)) == SUNDR_ACCEPTED, "an empty server");
+	must(sundr_refusal(sundr_server_make(USERS, &server)) == SUNDR_ACCEPTED, "an empty server");
 
 	tell("The maintainer commits the driver tree, of %d files.", FILES);
 	turn(&maintainer, &server, old.i_handle, 1);
@@ -191,8 +236,7 @@ int main(int argc, char **argv)
 
 	tell("\nThe host restores an old disk. The release desk is shown the tree of before:");
 	sent = send_list(&old_disk);
-	show_desk(&release, &sent, corrected.i_handle);
-	answer = check(&release, &sent, corrected.i_handle);
+	answer = check(&release, &sent, corrected.i_handle, 1);
 	must(sundr_refusal(answer) == SUNDR_NOT_CURRENT, "the old disk");
 	tell("Refused with %d: the list has not the desk's own last structure. No board is built from it.", sundr_refusal(answer));
 
@@ -207,14 +251,13 @@ int main(int argc, char **argv)
 	tell("The server shows the release desk both sides, every signature good:");
 	sent = send_list(&server);
 	memcpy(sent.list + SUNDR_VERSION_LEN, release.memory, sizeof release.memory);
-	show_desk(&release, &sent, corrected.i_handle);
-	answer = check(&release, &sent, corrected.i_handle);
+	answer = check(&release, &sent, corrected.i_handle, 1);
 	must(sundr_refusal(answer) == SUNDR_UNORDERED && sundr_first(answer) == 0 && sundr_second(answer) == 1, "the joined fork");
 	tell("Refused with %d: structures %u and %u are apart, and no list will ever join them again.",
 		sundr_refusal(answer), sundr_first(answer), sundr_second(answer));
 
 	tell("\nAn honest server, from the start: a thousand turns of both.");
-	must(sundr_refusal(sundr_server_make(&server, USERS)) == SUNDR_ACCEPTED, "an empty server");
+	must(sundr_refusal(sundr_server_make(USERS, &server)) == SUNDR_ACCEPTED, "an empty server");
 	maintainer.memory_len = release.memory_len = 0;
 	for (i = 0; i < 1000; i++)
 		turn(i % 3 ? &maintainer : &release, &server, corrected.i_handle, 0);

@@ -31,7 +31,7 @@ extern "C" {
 #endif
 
 /* The numbers in bits 0 to 7 of an answer. */
-enum sundr_refusal {
+enum sundr_refusal_number {
 	SUNDR_ACCEPTED = 0,
 	SUNDR_USERS = 1,          /* the number of users is not 1 to 16, or the user not below it */
 	SUNDR_LENGTH = 2,         /* a length is not the stated one */
@@ -48,9 +48,9 @@ enum sundr_refusal {
 };
 
 /* The refusal in an answer, SUNDR_ACCEPTED if there is none. */
-static inline enum sundr_refusal sundr_refusal(uint64_t answer)
+static inline enum sundr_refusal_number sundr_refusal(uint64_t answer)
 {
-	return (enum sundr_refusal)(answer & 0xff);
+	return (enum sundr_refusal_number)(answer & 0xff);
 }
 
 /* The first result or position in an answer. */
@@ -152,8 +152,9 @@ uint64_t sundr_server_make_at(uint8_t users, uint8_t *server, size_t server_len)
 /*
  * sundr_server_list_at: the records that the server in server[0..1569) holds, as a list.
  *
- * Accepted: the first result is their number n, they are in out[0..98 * n), owners ascending,
- * and the bytes of out after them are as they were. The second result is 0.
+ * Accepted: the first result is their number n, they are in out[0..98 * n), in the order of the
+ * users whose slots they are in, and the bytes of out after them are as they were. The second
+ * result is 0. For a server that was made and committed to, owners ascend.
  *
  * Refused, with out as it was; tried in this order:
  *   SUNDR_LENGTH    server_len is not 1,569.
@@ -182,7 +183,7 @@ uint64_t sundr_server_commit(struct sundr_server *server,
 	const uint8_t *record, size_t record_len, uint8_t mark);
 
 /* sundr_server_make_at() for a struct. */
-static inline uint64_t sundr_server_make(struct sundr_server *server, uint8_t users)
+static inline uint64_t sundr_server_make(uint8_t users, struct sundr_server *server)
 {
 	return sundr_server_make_at(users, (uint8_t *)server, sizeof *server);
 }

@@ -5,12 +5,9 @@
 #include <stddef.h>
 #include <stdint.h>
 
-uint8_t reference_check(uint8_t users, uint8_t user,
-	const uint8_t *memory, size_t memory_len,
-	const uint8_t *list, size_t list_len,
-	const uint8_t *marks, size_t marks_len,
-	const uint8_t *handle, size_t handle_len,
-	uint8_t *out, size_t out_len);
+/* The check of a list that has a record of each user; the client's own is its memory. */
+uint8_t reference_check(uint8_t users, uint8_t user, const uint8_t list[16 * 98], const uint8_t marks[16],
+	const uint8_t handle[32], uint8_t out[98]);
 
 uint8_t reference_commit(void *server, const uint8_t *record, size_t record_len, uint8_t mark);
 

@@ -4,31 +4,26 @@
 #[path = "../src/reference/mod.rs"]
 mod reference;
 
+use reference::check::check;
 use reference::server::Server;
-use std::slice::{from_raw_parts, from_raw_parts_mut};
+use reference::version::{RECORD, USERS};
+use std::slice::from_raw_parts;
 
+/// The check of a list that has a record of each user; the client's own is its memory.
 #[no_mangle]
-pub unsafe extern "C" fn reference_check(
+pub extern "C" fn reference_check(
     users: u8,
     user: u8,
-    memory: *const u8,
-    memory_len: usize,
-    list: *const u8,
-    list_len: usize,
-    marks: *const u8,
-    marks_len: usize,
-    handle: *const u8,
-    handle_len: usize,
-    out: *mut u8,
-    out_len: usize,
+    list: &[u8; RECORD * USERS],
+    marks: &[u8; USERS],
+    handle: &[u8; 32],
+    out: &mut [u8; RECORD],
 ) -> u8 {
-    let memory = from_raw_parts(memory, memory_len);
-    let list = from_raw_parts(list, list_len);
-    let marks = from_raw_parts(marks, marks_len);
-    let handle = from_raw_parts(handle, handle_len);
-    match reference::check::check(users, user, memory, list, marks, handle, out_len) {
+    let records = usize::from(users);
+    let memory = &list[RECORD * usize::from(user)..][..RECORD];
+    match check(users, user, memory, &list[..RECORD * records], &marks[..records], handle, out.len()) {
         Ok(new) => {
-            from_raw_parts_mut(out, out_len).copy_from_slice(&new);
+            *out = new;
             0
         }
         Err(refusal) => refusal.0,

@@ -3,6 +3,7 @@
 
 #include <string.h>
 
+#include "bytes.h"
 #include "check.h"
 
 /* A user's version structure with two counts and an i-handle of one byte, repeated. */
@@ -10,14 +11,6 @@ struct version {
 	uint8_t owner, handle;
 	uint32_t a, b;
 };
-
-static void put(uint8_t *at, uint32_t count)
-{
-	at[0] = (uint8_t)(count >> 24);
-	at[1] = (uint8_t)(count >> 16);
-	at[2] = (uint8_t)(count >> 8);
-	at[3] = (uint8_t)count;
-}
 
 static void encode(uint8_t record[98], struct version v)
 {
@@ -84,7 +77,7 @@ static int accepts(struct given g, uint32_t a, uint32_t b)
 }
 
 /* Whether the list is refused with this number and these positions, and no byte is written. */
-static int refuses(struct given g, enum sundr_refusal number, uint32_t first, uint32_t second)
+static int refuses(struct given g, enum sundr_refusal_number number, uint32_t first, uint32_t second)
 {
 	struct given before = g;
 	struct answer got, due;
@@ -216,7 +209,7 @@ static int lists(const struct sundr_server *server, const uint8_t *records, uint
 
 /* Whether a commit is refused so, and the server is as it was. */
 static int turns_away(struct sundr_server *server, struct version v, uint8_t mark,
-	enum sundr_refusal number, uint32_t first)
+	enum sundr_refusal_number number, uint32_t first)
 {
 	struct sundr_server before = *server;
 	uint8_t record[98];
@@ -238,13 +231,13 @@ static void session(void)
 
 	memset(&server, 0xee, sizeof server);
 	before = server;
-	check("no server for no users", sundr_server_make(&server, 0) == SUNDR_USERS
+	check("no server for no users", sundr_server_make(0, &server) == SUNDR_USERS
 		&& memcmp(&server, &before, sizeof server) == 0);
-	check("no server for 17 users", sundr_server_make(&server, 17) == SUNDR_USERS
+	check("no server for 17 users", sundr_server_make(17, &server) == SUNDR_USERS
 		&& memcmp(&server, &before, sizeof server) == 0);
 	check("no server in 1,568 bytes", sundr_server_make_at(2, (uint8_t *)&server, 1568) == SUNDR_LENGTH
 		&& memcmp(&server, &before, sizeof server) == 0);
-	check("a server for two users", sundr_server_make(&server, 2) == SUNDR_ACCEPTED && server.users == 2);
+	check("a server for two users", sundr_server_make(2, &server) == SUNDR_ACCEPTED && server.users == 2);
 	check("it is empty", lists(&server, NULL, 0));
 	check("an empty list, at NULL", sundr_server_list(&server, NULL, 0) == 0);
 

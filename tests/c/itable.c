@@ -3,6 +3,7 @@
 
 #include <string.h>
 
+#include "bytes.h"
 #include "check.h"
 
 #define ROOM (SUNDR_TABLE_MAX_BLOCKS * SUNDR_TABLE_BLOCK_LEN)
@@ -27,7 +28,7 @@ static uint64_t accepted(uint32_t first, uint32_t second)
 	return (uint64_t)second << 32 | (uint64_t)first << 8;
 }
 
-static int refused(uint64_t answer, enum sundr_refusal number, uint32_t first)
+static int refused(uint64_t answer, enum sundr_refusal_number number, uint32_t first)
 {
 	return sundr_refusal(answer) == number && sundr_first(answer) == first && sundr_second(answer) == 0;
 }
@@ -35,15 +36,9 @@ static int refused(uint64_t answer, enum sundr_refusal number, uint32_t first)
 static int is_hash_of(const uint8_t *message, size_t len, const char *due)
 {
 	uint8_t hash[32];
-	char hex[65];
-	int i;
 
 	sundr_sha256(message, len, hash, sizeof hash);
-	for (i = 0; i < 32; i++)
-		sprintf(hex + 2 * i, "%02x", hash[i]);
-	if (strcmp(hex, due) != 0)
-		printf("%zu bytes: %s, not %s\n", len, hex, due);
-	return strcmp(hex, due) == 0;
+	return is_hash(hash, len, due);
 }
 
 static int all(const uint8_t *bytes, size_t len, uint8_t value)
@@ -93,10 +88,7 @@ static void store_file(size_t len)
 		file[i] = (uint8_t)(i % 251);
 	memset(inode, 0, sizeof inode);
 	inode[0] = 6;
-	inode[1] = (uint8_t)(len >> 24);
-	inode[2] = (uint8_t)(len >> 16);
-	inode[3] = (uint8_t)(len >> 8);
-	inode[4] = (uint8_t)len;
+	put(inode + 1, (uint32_t)len);
 	for (at = 0, i = 0; at < len; at += SUNDR_FILE_BLOCK_LEN, i++)
 		sundr_sha256(file + at, len - at < SUNDR_FILE_BLOCK_LEN ? len - at : SUNDR_FILE_BLOCK_LEN,
 			inode + 5 + 32 * i, 32);

@@ -82,8 +82,8 @@ pub fn ask(request: &Request) -> Option<Version> {
 /// what the library wrote, if it accepted.
 pub fn judge(request: &Request, seen: &mut Seen, random: &mut Random) -> Result<Option<Version>, String> {
     let Request { users, user, memory, list, marks, handle, out_len } = request;
-    let lent = [memory, list, marks, handle].map(|bytes| Guarded::new(bytes, random.below(64)));
-    let mut out = Guarded::new(&random.bytes(*out_len), random.below(64));
+    let lent = [memory, list, marks, handle].map(|bytes| Guarded::new(bytes, random));
+    let mut out = Guarded::new(&random.bytes(*out_len), random);
     let [m, l, k, h] = lent.each_ref().map(|buffer| (buffer.pointer(), buffer.len()));
     let answer =
         unsafe { sundr_check(*users, *user, m.0, m.1, l.0, l.1, k.0, k.1, h.0, h.1, out.pointer_mut(), out.len()) };
@@ -91,13 +91,10 @@ pub fn judge(request: &Request, seen: &mut Seen, random: &mut Random) -> Result<
     seen.count(&due, list.len() / RECORD);
 
     let judged = || {
+        equal("the answer", Answer::from(answer), Answer::from(due.map(|_| (0, 0))))?;
         match due {
-            Err(Refusal(number, first, second)) => {
-                equal("the answer", Answer::from(answer), Answer::Refused(number, first, second))?;
-                out.unaltered().map_err(|e| format!("out, refused: {e}"))?;
-            }
+            Err(_) => out.unaltered().map_err(|e| format!("out, refused: {e}"))?,
             Ok(new) => {
-                equal("the answer", Answer::from(answer), Answer::Accepted(0, 0))?;
                 out.kept_guards().map_err(|e| format!("out: {e}"))?;
                 equal("the new structure", hex(out.content()), hex(&new))?;
             }
@@ -136,9 +133,7 @@ fn every_pair() -> Outcome {
                 let (a, b) = (random.below(USERS), random.below(USERS));
                 list[i].counts[a] -= 1;
                 list[j].counts[b] -= 1;
-                let memory = Some(list[user]);
-                let draft = Draft { users: USERS as u8, user: user as u8, memory, list };
-                judge(&draft.request(&mut random), &mut seen, &mut random)?;
+                judge(&Draft::whole(list, user).request(&mut random), &mut seen, &mut random)?;
             }
         }
     }
@@ -158,9 +153,7 @@ fn every_count() -> Outcome {
                     let (i, j) = (random.below(USERS), random.below(USERS));
                     list[i].counts[a] = lower;
                     list[j].counts[b] = lower;
-                    let user = random.below(USERS);
-                    let memory = Some(list[user]);
-                    let draft = Draft { users: USERS as u8, user: user as u8, memory, list };
+                    let draft = Draft::whole(list, random.below(USERS));
                     judge(&draft.request(&mut random), &mut seen, &mut random)?;
                 }
             }
@@ -200,9 +193,7 @@ fn every_mark() -> Outcome {
                     Version::new(v, some_handle(&mut random), counts)
                 })
                 .collect();
-            let user = random.below(users);
-            let draft = Draft { users: users as u8, user: user as u8, memory: Some(list[user]), list };
-            let mut request = draft.request(&mut random);
+            let mut request = Draft::whole(list, random.below(users)).request(&mut random);
             request.marks[place] = mark;
             judge(&request, &mut seen, &mut random)?;
         }

@@ -1,5 +1,7 @@
 //! The calls of libsundr.a, as include/sundr.h declares them.
 
+use crate::reference::Refusal;
+
 extern "C" {
     pub fn sundr_sha256(message: *const u8, message_len: usize, out: *mut u8, out_len: usize) -> u64;
 
@@ -65,6 +67,16 @@ impl From<u64> for Answer {
         match number {
             0 => Answer::Accepted(first, second),
             _ => Answer::Refused(number, first, second),
+        }
+    }
+}
+
+/// The answer that says what the second implementation comes to: two results, or a refusal.
+impl From<Result<(u32, u32), Refusal>> for Answer {
+    fn from(due: Result<(u32, u32), Refusal>) -> Answer {
+        match due {
+            Ok((first, second)) => Answer::Accepted(first, second),
+            Err(Refusal(number, first, second)) => Answer::Refused(number, first, second),
         }
     }
 }

@@ -4,7 +4,6 @@ use crate::ffi::{sundr_table_write, Answer};
 use crate::guarded::Guarded;
 use crate::random::Random;
 use crate::reference::itable::{write, BLOCK, MOST_FILES};
-use crate::reference::Refusal;
 use crate::runner::{equal, hex, Outcome, Runner};
 use std::collections::BTreeSet;
 use std::ptr::{null, null_mut};
@@ -65,10 +64,9 @@ fn judge(
     seen: &mut Seen,
     random: &mut Random,
 ) -> Result<Option<Vec<u8>>, String> {
-    let number_bytes: Vec<u8> = numbers.iter().flat_map(|number| number.to_ne_bytes()).collect();
-    let lent_numbers = Guarded::new(&number_bytes, 8 * random.below(8));
-    let lent_handles = Guarded::new(handles, random.below(64));
-    let mut out = Guarded::new(&random.bytes(out_len), random.below(64));
+    let lent_numbers = Guarded::numbers(numbers, random);
+    let lent_handles = Guarded::new(handles, random);
+    let mut out = Guarded::new(&random.bytes(out_len), random);
     let before = out.content().to_vec();
     let answer = unsafe {
         sundr_table_write(
@@ -89,23 +87,20 @@ fn judge(
     let judged = || {
         lent_numbers.unaltered().map_err(|e| format!("numbers: {e}"))?;
         lent_handles.unaltered().map_err(|e| format!("handles: {e}"))?;
+        let results = due.as_ref().map(|blocks| ((blocks.len() / BLOCK) as u32, 0)).map_err(|refusal| *refusal);
+        equal("the answer", Answer::from(answer), Answer::from(results))?;
         match &due {
-            Err(Refusal(number, first, second)) => {
-                equal("the answer", Answer::from(answer), Answer::Refused(*number, *first, *second))?;
+            Err(_) => {
                 out.unaltered().map_err(|e| format!("out, refused: {e}"))?;
                 Ok(None)
             }
             Ok(blocks) => {
-                let number = blocks.len() / BLOCK;
-                equal("the answer", Answer::from(answer), Answer::Accepted(number as u32, 0))?;
                 out.kept_guards().map_err(|e| format!("out: {e}"))?;
                 let (written, after) = out.content().split_at(blocks.len());
-                if let Some(i) = (0..number).find(|i| written[i * BLOCK..][..BLOCK] != blocks[i * BLOCK..][..BLOCK]) {
-                    equal(
-                        &format!("block {i}"),
-                        hex(&written[i * BLOCK..][..BLOCK]),
-                        hex(&blocks[i * BLOCK..][..BLOCK]),
-                    )?;
+                for (i, (got, due)) in written.chunks(BLOCK).zip(blocks.chunks(BLOCK)).enumerate() {
+                    if got != due {
+                        equal(&format!("block {i}"), hex(got), hex(due))?;
+                    }
                 }
                 if *after != before[blocks.len()..] {
                     return Err("out was written after the last block".to_string());
@@ -239,7 +234,7 @@ fn random_tables() -> Outcome {
 
 /// No numbers, no handles and no room, each at NULL.
 fn nothing_at_null() -> Outcome {
-    let mut out = Guarded::new(&[7; BLOCK], 0);
+    let mut out = Guarded::new(&[7; BLOCK], &mut Random::new(0));
     let room = |out: *mut u8, len| Answer::from(unsafe { sundr_table_write(null(), 0, null(), 0, out, len) });
     equal("without room", room(null_mut(), 0), Answer::Refused(12, 0, 0))?;
     equal("with room", room(out.pointer_mut(), BLOCK), Answer::Accepted(1, 0))?;

@@ -79,6 +79,11 @@ impl Draft {
         Draft { users: users as u8, user, memory, list }
     }
 
+    /// A list that has a structure of each user; the client's own is its memory.
+    pub fn whole(list: Vec<Version>, user: usize) -> Draft {
+        Draft { users: list.len() as u8, user: user as u8, memory: Some(list[user]), list }
+    }
+
     /// The most operations of each user that a listed structure counts.
     fn most(&self) -> [u32; USERS] {
         std::array::from_fn(|user| self.list.iter().map(|version| version.counts[user]).max().unwrap_or(0))

@@ -65,9 +65,9 @@ impl Seen {
 /// One call, judged: the answer, the handle, and every byte that is not to change.
 fn judge(request: &Request, seen: &mut Seen, random: &mut Random) -> Outcome {
     let Request { handle, number, path, out_len } = request;
-    let lent_handle = Guarded::new(handle, random.below(64));
-    let lent_path = Guarded::new(path, random.below(64));
-    let mut out = Guarded::new(&random.bytes(*out_len), random.below(64));
+    let lent_handle = Guarded::new(handle, random);
+    let lent_path = Guarded::new(path, random);
+    let mut out = Guarded::new(&random.bytes(*out_len), random);
     let answer = unsafe {
         sundr_lookup(
             lent_handle.pointer(),
@@ -85,15 +85,11 @@ fn judge(request: &Request, seen: &mut Seen, random: &mut Random) -> Outcome {
     let judged = || {
         lent_handle.unaltered().map_err(|e| format!("handle: {e}"))?;
         lent_path.unaltered().map_err(|e| format!("path: {e}"))?;
-        let answer = Answer::from(answer);
-        match due {
-            Ok(Some(found)) => {
-                equal("the answer", answer, Answer::Accepted(1, 0))?;
-                out.kept_guards().map_err(|e| format!("out: {e}"))?;
-                return equal("the handle", hex(out.content()), hex(&found));
-            }
-            Ok(None) => equal("the answer", answer, Answer::Accepted(0, 0))?,
-            Err(Refusal(number, first, second)) => equal("the answer", answer, Answer::Refused(number, first, second))?,
+        let results = due.map(|found| (u32::from(found.is_some()), 0));
+        equal("the answer", Answer::from(answer), Answer::from(results))?;
+        if let Ok(Some(found)) = due {
+            out.kept_guards().map_err(|e| format!("out: {e}"))?;
+            return equal("the handle", hex(out.content()), hex(&found));
         }
         out.unaltered().map_err(|e| format!("out, nothing found: {e}"))
     };

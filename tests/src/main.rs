@@ -19,7 +19,7 @@ mod server;
 mod sha256;
 
 fn main() -> std::process::ExitCode {
-    let mut runner = runner::Runner::default();
+    let mut runner = runner::Runner::new();
     sha256::checks(&mut runner);
     check::checks(&mut runner);
     desk::checks(&mut runner);

@@ -1,20 +1,42 @@
 //! Runs named checks, and counts them.
 
+use std::cell::Cell;
 use std::panic::{catch_unwind, AssertUnwindSafe};
-use std::process::ExitCode;
+use std::process::{exit, ExitCode};
 
 /// Passed, or what is wrong, with the input that shows it.
 pub type Outcome = Result<(), String>;
 
-#[derive(Default)]
 pub struct Runner {
     passed: usize,
     failed: usize,
 }
 
+extern "C" {
+    fn signal(number: i32, handler: extern "C" fn(i32)) -> usize;
+}
+const SIGSEGV: i32 = 11;
+
+thread_local! {
+    /// The check that runs.
+    static RUNNING: Cell<&'static str> = const { Cell::new("") };
+}
+
+/// A call touched memory that it may not. It is in the midst of its work, so that no other check can follow.
+extern "C" fn fault(_: i32) {
+    println!("FAILED  {}: memory was touched that is not lent", RUNNING.get());
+    exit(1)
+}
+
 impl Runner {
+    pub fn new() -> Runner {
+        unsafe { signal(SIGSEGV, fault) };
+        Runner { passed: 0, failed: 0 }
+    }
+
     /// One check: one line, one count. A panic fails it.
-    pub fn check(&mut self, name: &str, body: impl FnOnce() -> Outcome) {
+    pub fn check(&mut self, name: &'static str, body: impl FnOnce() -> Outcome) {
+        RUNNING.set(name);
         match catch_unwind(AssertUnwindSafe(body)).unwrap_or(Err("panicked".to_string())) {
             Ok(()) => {
                 self.passed += 1;

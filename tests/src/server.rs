@@ -17,7 +17,7 @@ struct Pair {
 
 impl Pair {
     fn new(reference: Server, random: &mut Random) -> Pair {
-        Pair { lent: Guarded::new(&reference.bytes(), random.below(64)), reference }
+        Pair { lent: Guarded::new(&reference.bytes(), random), reference }
     }
 
     /// The library's server is the other one, byte for byte.
@@ -29,26 +29,26 @@ impl Pair {
     /// One listing into a buffer of this length, judged.
     fn list(&mut self, out_len: usize, random: &mut Random) -> Outcome {
         let before = random.bytes(out_len);
-        let mut out = Guarded::new(&before, random.below(64));
+        let mut out = Guarded::new(&before, random);
         let answer =
             unsafe { sundr_server_list_at(self.lent.pointer(), self.lent.len(), out.pointer_mut(), out.len()) };
         let mut due = before;
         let accepted = self.reference.list(&mut due);
         self.same()?;
         out.kept_guards().map_err(|e| format!("out: {e}"))?;
-        equal("the answer to a listing", Answer::from(answer), due_answer(accepted))?;
+        equal("the answer to a listing", Answer::from(answer), Answer::from(accepted.map(|records| (records, 0))))?;
         same_bytes("out", out.content(), &due)
     }
 
     /// One commit, judged; gives whether it is refused.
     fn commit(&mut self, record: &[u8], mark: u8, random: &mut Random) -> Result<Result<(), Refusal>, String> {
         let before = self.reference.clone();
-        let lent = Guarded::new(record, random.below(64));
+        let lent = Guarded::new(record, random);
         let answer = unsafe { sundr_server_commit(self.lent.pointer_mut(), lent.pointer(), lent.len(), mark) };
         let accepted = self.reference.commit(record, mark);
         let judged = || {
             lent.unaltered().map_err(|e| format!("record: {e}"))?;
-            equal("the answer to a commit", Answer::from(answer), due_answer(accepted.map(|()| 0)))?;
+            equal("the answer to a commit", Answer::from(answer), Answer::from(accepted.map(|()| (0, 0))))?;
             self.same()
         };
         judged().map_err(|e| {
@@ -64,13 +64,6 @@ fn same_bytes(what: &str, got: &[u8], due: &[u8]) -> Outcome {
     match (0..due.len()).find(|&i| got[i] != due[i]) {
         None => Ok(()),
         Some(i) => Err(format!("{what}: byte {i} is {}, not {}", got[i], due[i])),
-    }
-}
-
-fn due_answer(due: Result<u32, Refusal>) -> Answer {
-    match due {
-        Ok(first) => Answer::Accepted(first, 0),
-        Err(Refusal(number, first, second)) => Answer::Refused(number, first, second),
     }
 }
 
@@ -107,6 +100,15 @@ fn altered(version: Version, server: &Server, random: &mut Random) -> (Vec<u8>, 
         _ => (),
     }
     (record, mark)
+}
+
+/// A record to commit, with its mark: one of so many is a good one.
+fn some_record(server: &Server, one_of: usize, random: &mut Random) -> (Vec<u8>, u8) {
+    let next = next_record(server, random);
+    match random.below(one_of) {
+        0 => (next.write().to_vec(), 1),
+        _ => altered(next, server, random),
+    }
 }
 
 /// How often each answer of a commit was due.
@@ -156,7 +158,8 @@ fn sessions() -> Outcome {
     for session in 0..300 {
         let users = session % USERS + 1;
         let made = Server::make(users as u8).map_err(|e| format!("{e:?}"))?;
-        let mut pair = Pair::new(made, &mut random);
+        // Made in random bytes, so that a making that writes nothing is seen.
+        let mut pair = Pair { lent: Guarded::new(&random.bytes(SERVER), &mut random), reference: made };
         let answer = unsafe { sundr_server_make_at(users as u8, pair.lent.pointer_mut(), SERVER) };
         equal("the answer to a making", Answer::from(answer), Answer::Accepted(0, 0))?;
         pair.same()?;
@@ -167,11 +170,7 @@ fn sessions() -> Outcome {
                 pair.list(len, &mut random)?;
                 continue;
             }
-            let next = next_record(&pair.reference, &mut random);
-            let (record, mark) = match random.below(4) {
-                0 => (next.write().to_vec(), 1),
-                _ => altered(next, &pair.reference, &mut random),
-            };
+            let (record, mark) = some_record(&pair.reference, 4, &mut random);
             let accepted = pair.commit(&record, mark, &mut random)?;
             seen.count(accepted);
             commits += u64::from(accepted.is_ok());
@@ -233,11 +232,7 @@ fn any_server() -> Outcome {
         let len = some_length(&pair.reference, &mut random);
         pair.list(len, &mut random)?;
         for _ in 0..4 {
-            let next = next_record(&pair.reference, &mut random);
-            let (record, mark) = match random.below(2) {
-                0 => (next.write().to_vec(), 1),
-                _ => altered(next, &pair.reference, &mut random),
-            };
+            let (record, mark) = some_record(&pair.reference, 2, &mut random);
             let accepted = pair.commit(&record, mark, &mut random)?;
             seen.count(accepted);
             no_user += usize::from(matches!(accepted, Err(Refusal(7, v, _)) if v >= u32::from(pair.reference.users)));
@@ -254,11 +249,11 @@ fn makings() -> Outcome {
     let mut random = Random::new(1_569);
     for users in 0..=255 {
         for len in [SERVER, SERVER, SERVER - 1, SERVER + 1, 0, 1, 1_568 * 2, random.below(3_000)] {
-            let mut lent = Guarded::new(&random.bytes(len), random.below(64));
+            let mut lent = Guarded::new(&random.bytes(len), &mut random);
             let answer = unsafe { sundr_server_make_at(users, lent.pointer_mut(), lent.len()) };
             let made = if len == SERVER { Server::make(users) } else { Err(Refusal(2, 0, 0)) };
             let judged = || {
-                equal("the answer", Answer::from(answer), due_answer(made.clone().map(|_| 0)))?;
+                equal("the answer", Answer::from(answer), Answer::from(made.clone().map(|_| (0, 0))))?;
                 match &made {
                     Err(_) => lent.unaltered(),
                     Ok(server) if lent.content() == server.bytes() => lent.kept_guards(),
@@ -286,8 +281,8 @@ fn listings() -> Outcome {
         for len in [0, 1, SERVER - 1, SERVER + 1, 2 * SERVER, random.below(SERVER)] {
             let mut bytes = server.bytes();
             bytes.resize(len, 1);
-            let lent = Guarded::new(&bytes, random.below(64));
-            let mut out = Guarded::new(&random.bytes(SERVER), random.below(64));
+            let lent = Guarded::new(&bytes, &mut random);
+            let mut out = Guarded::new(&random.bytes(SERVER), &mut random);
             let answer = unsafe { sundr_server_list_at(lent.pointer(), lent.len(), out.pointer_mut(), out.len()) };
             equal("the answer", Answer::from(answer), Answer::Refused(2, 0, 0))?;
             lent.unaltered()?;

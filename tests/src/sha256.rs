@@ -13,8 +13,8 @@ const LIMIT: usize = 65_536;
 
 /// One call, judged: the answer, the result, and every byte that is not to change.
 fn judge(message: &[u8], out_len: usize, random: &mut Random) -> Outcome {
-    let lent = Guarded::new(message, random.below(64));
-    let mut out = Guarded::new(&random.bytes(out_len), random.below(64));
+    let lent = Guarded::new(message, random);
+    let mut out = Guarded::new(&random.bytes(out_len), random);
     let answer = unsafe { sundr_sha256(lent.pointer(), lent.len(), out.pointer_mut(), out.len()) };
 
     let judged = || {
@@ -110,8 +110,8 @@ fn sum_by_coreutils(message: &[u8]) -> Result<String, String> {
 }
 
 pub fn checks(runner: &mut Runner) {
-    runner.check("sha256: every length 0 to 300, at 16 alignments each", every_length_to_300);
-    runner.check("sha256: 100,000 random messages of up to 65,537 bytes, at any alignment", random_messages);
+    runner.check("sha256: every length 0 to 300, at 16 places each", every_length_to_300);
+    runner.check("sha256: 100,000 random messages of up to 65,537 bytes, at any place", random_messages);
     runner.check("sha256: 130 lengths to either side of 65,536, and far above", lengths_by_the_limit);
     runner.check("sha256: results of another length than 32", other_lengths_of_out);
     runner.check("sha256: sha256sum agrees", sha256sum);
