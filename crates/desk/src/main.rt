@@ -34,13 +34,13 @@ fn print_counts(users: u8, counts: [u32; 16]) {
 
 // The refusal's number and both positions.
 fn print_refusal(refusal: refusal::Refusal) {
-    let word = refusal::refusal_word(refusal);
+    let told = refusal::tell(refusal);
     print(b"refuse ");
-    print_number(word % 256);
+    print_number(told.number as u64);
     print(b" ");
-    print_number(word / 256 % 16777216);
+    print_number(told.first as u64);
     print(b" ");
-    print_number(word / 4294967296);
+    print_number(told.second as u64);
     print(b"\n");
 }
 

@@ -4,6 +4,7 @@
 //
 // Numbers 13 to 19 are kept for what is planned above this base.
 ghost use mathlib.Core.Path.{_≡_};
+ghost use Rattle.refusal.specs.Answer.{refused};
 ghost use Rattle.refusal.specs.Refusal.{refusal, said};
 ghost use Rattle.refusal.specs.Word.{word as wordOf, plainWord};
 
@@ -41,6 +42,43 @@ pub enum Check {
     Refused(Refusal),
 }
 
+// A refusal's number and both positions.
+pub struct Told {
+    pub number: u8,
+    pub first: usize,
+    pub second: usize,
+}
+
+fn row(number: u8, first: usize, second: usize) -> Told
+    ensures { λ r. ⌜ r ≡ record { number = number; first = first; second = second } ⌝ }
+{
+    Told {
+        number,
+        first,
+        second,
+    }
+}
+
+// The number and the positions of a refusal, as the paper's table has them.
+pub fn tell(r: Refusal) -> Told
+    ensures { λ t. ⌜ refusal {A = Unit} r ≡ refused (t .number) (t .first) (t .second) ⌝ }
+{
+    match r {
+        Refusal::Users => row(1, 0, 0),
+        Refusal::Length(p) => row(2, p, 0),
+        Refusal::Malformed(p) => row(3, p, 0),
+        Refusal::Unsigned(p) => row(4, p, 0),
+        Refusal::NotCurrent => row(5, 0, 0),
+        Refusal::LastVersion => row(6, 0, 0),
+        Refusal::Unordered(p, q) => row(7, p, q),
+        Refusal::WrongHash(p) => row(8, p, 0),
+        Refusal::PathLength(p) => row(9, p, 0),
+        Refusal::NoBlock => row(10, 0, 0),
+        Refusal::NotAscending(p) => row(11, p, 0),
+        Refusal::NoRoom => row(12, 0, 0),
+    }
+}
+
 // An answer as one number, for callers in C: a refusal's number, or 0, and two positions or results.
 // A position is taken modulo 2^24, a second one modulo 2^32; no call has any as large.
 pub fn word(number: u8, first: usize, second: usize) -> u64
@@ -53,20 +91,8 @@ pub fn word(number: u8, first: usize, second: usize) -> u64
 pub fn refusal_word(r: Refusal) -> u64
     ensures { λ w. ⌜ w ≡ plainWord {A = Unit} (refusal r) ⌝ }
 {
-    match r {
-        Refusal::Users => word(1, 0, 0),
-        Refusal::Length(p) => word(2, p, 0),
-        Refusal::Malformed(p) => word(3, p, 0),
-        Refusal::Unsigned(p) => word(4, p, 0),
-        Refusal::NotCurrent => word(5, 0, 0),
-        Refusal::LastVersion => word(6, 0, 0),
-        Refusal::Unordered(p, q) => word(7, p, q),
-        Refusal::WrongHash(p) => word(8, p, 0),
-        Refusal::PathLength(p) => word(9, p, 0),
-        Refusal::NoBlock => word(10, 0, 0),
-        Refusal::NotAscending(p) => word(11, p, 0),
-        Refusal::NoRoom => word(12, 0, 0),
-    }
+    let t = tell(r);
+    word(t.number, t.first, t.second)
 }
 
 // A check's answer as such a number.
