@@ -2,26 +2,18 @@
 use Prim.Native.Nat.{ℕ, _+_, _-_, _*_, _≤_, _<_}
 use mathlib.Core.Bool.{Bool, true, false, _&&_}
 use mathlib.Core.List.{List}
-use mathlib.Core.Path.{_≡_, sym, ap, _∙_}
+use mathlib.Core.Path.{_≡_, sym, _∙_}
 use native.Mathlib.Omega.{arith}
 use lib.ListN.{length, getD, take, drop}
 use borrow.Author.Tests.{eq-eqb, ne-eqb, le-leb, lt-leb, lt-ltb, le-ltb}
 use Rattle.search.specs.Search.{same}
 use Rattle.refusal.specs.Answer.{accepted, refused}
 use Rattle.refusal.specs.Order.{inOrder, tried}
-use Rattle.refusal.specs.Result.{Gives}
-use Rattle.refusal.specs.declared.Check.{Check}
 use Rattle.sha256.specs.Sha256.{sha256}
-use Rattle.sha256.specs.Hash.{hash}
-use Rattle.sha256.proofs.Laws.{hash-left}
+use Rattle.sha256.specs.Hash.{isHash}
+use Rattle.sha256.proofs.Laws.{is-hash}
 use Rattle.itable.specs.Zeros.{zeros}
 use Rattle.itable.specs.Inode.{fileBlocks, blockLength, hashAt, restZero, holds, fileLength, wellFormed, inodeSteps, blockSteps}
-
--- A hash into 32 lent bytes, compared.
-pub compared :
-    (m o d h : List ℕ) (r : Check) (b : Bool) → length m ≤ 65536 → length o ≡ 32 → Gives (hash m (length o)) o d r → b ≡ same d h →
-    b ≡ same (sha256 m) h
-compared m o d h r b l lo g e = e ∙ ap (λ x. same x h) (hash-left m o d r l lo g)
 
 -- The hashes, by the file's length.
 module _ (b : List ℕ) (at n len : ℕ) where
@@ -59,18 +51,21 @@ module _ (handle inode : List ℕ) where
     wrong-size h = rw (eq-eqb (length handle) 32 lh, ne-eqb (length inode) 517 h)
 
     module _ (li : length inode ≡ 517) where
-      pub wrong-hash : same (sha256 inode) handle ≡ false → refused 8 0 0 ≡ tried (inodeSteps handle inode)
-      unfolding inodeSteps inOrder
-      wrong-hash h = rw (eq-eqb (length handle) 32 lh, eq-eqb (length inode) 517 li, h)
+      hashed : same (sha256 inode) handle ≡ isHash inode handle
+      hashed = sym (is-hash inode handle (omega arith))
 
-      module _ (s : same (sha256 inode) handle ≡ true) where
+      pub wrong-hash : isHash inode handle ≡ false → refused 8 0 0 ≡ tried (inodeSteps handle inode)
+      unfolding inodeSteps inOrder
+      wrong-hash h = rw (eq-eqb (length handle) 32 lh, eq-eqb (length inode) 517 li, hashed, h)
+
+      module _ (s : isHash inode handle ≡ true) where
         pub malformed : wellFormed inode ≡ false → refused 3 0 0 ≡ tried (inodeSteps handle inode)
         unfolding inodeSteps inOrder
-        malformed h = rw (eq-eqb (length handle) 32 lh, eq-eqb (length inode) 517 li, s, h)
+        malformed h = rw (eq-eqb (length handle) 32 lh, eq-eqb (length inode) 517 li, hashed, s, h)
 
         pub inode-passes : wellFormed inode ≡ true → accepted tt ≡ tried (inodeSteps handle inode)
         unfolding inodeSteps inOrder
-        inode-passes h = rw (eq-eqb (length handle) 32 lh, eq-eqb (length inode) 517 li, s, h)
+        inode-passes h = rw (eq-eqb (length handle) 32 lh, eq-eqb (length inode) 517 li, hashed, s, h)
 
 -- The tests of the block.
 module _ (inode : List ℕ) (k : ℕ) (block : List ℕ) (len : ℕ) (el : len ≡ fileLength inode) (m : ℕ) (em : m ≡ fileBlocks len) where
@@ -78,27 +73,28 @@ module _ (inode : List ℕ) (k : ℕ) (block : List ℕ) (len : ℕ) (el : len �
   unfolding blockSteps inOrder
   no-block h = rw (← el, ← em, le-ltb k m h)
 
-  module _ (h : k < m) (z : ℕ) (ez : z ≡ blockLength len k) where
+  module _ (h : k < m) (z : ℕ) (ez : (z ≡ blockLength len k) × (z ≤ 8192)) where
     pub wrong-length : (length block ≡ z → ⊥) → refused 2 1 0 ≡ tried (blockSteps inode k block)
     unfolding blockSteps inOrder
-    wrong-length n = rw (← el, ← em, ← ez, lt-ltb k m h, ne-eqb (length block) z n)
+    wrong-length n = rw (← el, ← em, ← ez .0, lt-ltb k m h, ne-eqb (length block) z n)
 
     module _ (lb : length block ≡ z) where
-      part-is : take (5 + 32 * k + 32 - (5 + 32 * k)) (drop (5 + 32 * k) inode) ≡ hashAt inode 5 k
-      part-is = let e : 5 + 32 * k + 32 - (5 + 32 * k) ≡ 32 = omega arith in rw e
+      -- The hash is lent as the part of the inode from its place on.
+      lent : same (sha256 block) (hashAt inode 5 k) ≡ isHash block (take (5 + 32 * k + 32 - (5 + 32 * k)) (drop (5 + 32 * k) inode))
+      lent = let e : 5 + 32 * k + 32 - (5 + 32 * k) ≡ 32 = omega arith in rw e (sym (is-hash block (hashAt inode 5 k) (omega arith)))
 
       pub wrong-block :
-          same (sha256 block) (take (5 + 32 * k + 32 - (5 + 32 * k)) (drop (5 + 32 * k) inode)) ≡ false →
+          isHash block (take (5 + 32 * k + 32 - (5 + 32 * k)) (drop (5 + 32 * k) inode)) ≡ false →
           refused 8 1 0 ≡ tried (blockSteps inode k block)
       unfolding blockSteps inOrder
       wrong-block s =
-          let t : same (sha256 block) (hashAt inode 5 k) ≡ false = ap (same (sha256 block)) (sym part-is) ∙ s in
-          rw (← el, ← em, ← ez, lt-ltb k m h, eq-eqb (length block) z lb, t)
+          let t : same (sha256 block) (hashAt inode 5 k) ≡ false = lent ∙ s in
+          rw (← el, ← em, ← ez .0, lt-ltb k m h, eq-eqb (length block) z lb, t)
 
       pub block-passes :
-          same (sha256 block) (take (5 + 32 * k + 32 - (5 + 32 * k)) (drop (5 + 32 * k) inode)) ≡ true →
+          isHash block (take (5 + 32 * k + 32 - (5 + 32 * k)) (drop (5 + 32 * k) inode)) ≡ true →
           accepted tt ≡ tried (blockSteps inode k block)
       unfolding blockSteps inOrder
       block-passes s =
-          let t : same (sha256 block) (hashAt inode 5 k) ≡ true = ap (same (sha256 block)) (sym part-is) ∙ s in
-          rw (← el, ← em, ← ez, lt-ltb k m h, eq-eqb (length block) z lb, t)
+          let t : same (sha256 block) (hashAt inode 5 k) ≡ true = lent ∙ s in
+          rw (← el, ← em, ← ez .0, lt-ltb k m h, eq-eqb (length block) z lb, t)

@@ -7,10 +7,8 @@ ghost use mathlib.Core.Path.{_≡_};
 ghost use Prim.Native.Nat.{_+_, _*_, _≤_, _<_};
 ghost use mathlib.Core.Bool.{_&&_};
 ghost use lib.ListN.{length};
-ghost use Rattle.search.specs.Search.{same};
 ghost use Rattle.refusal.specs.Refusal.{said};
 ghost use Rattle.refusal.specs.Order.{tried};
-ghost use Rattle.sha256.specs.Sha256.{sha256 as sha256Of};
 ghost use Rattle.itable.specs.Inode.{fileBlocks, blockLength, restZero, holds, fileLength, wellFormed, inodeSteps, blockSteps, blockCheck};
 ghost use Rattle.inode.specs.Spanned.{answerOf};
 
@@ -18,16 +16,6 @@ ghost use Rattle.inode.specs.Spanned.{answerOf};
 pub enum Spanned {
     Span(usize, usize),
     Refused(Refusal),
-}
-
-// Whether the SHA-256 hash of a message is this one.
-fn hash_is(message: &[u8], hash: &[u8]) -> bool
-    requires { ⌜ length (now message) ≤ 65536 ⌝ }
-    ensures { λ r. ⌜ r ≡ same (sha256Of (now (message .entry))) (now (hash .entry)) ⌝ }
-{
-    let mut digest = [0u8; 32];
-    sha256::sha256(message, &mut digest);
-    search::equal(&digest, hash)
 }
 
 // The number of blocks of a file of this length.
@@ -79,7 +67,7 @@ fn inode_check(handle: &[u8], inode: &[u8]) -> Check
     if inode.len() != 517 {
         return Check::Refused(Refusal::Length(0));
     }
-    if !hash_is(inode, handle) {
+    if !sha256::is_hash(inode, handle) {
         return Check::Refused(Refusal::WrongHash(0));
     }
     if !well_formed(inode) {
@@ -101,7 +89,7 @@ fn file_block_check(inode: &[u8], k: usize, block: &[u8]) -> Check
         return Check::Refused(Refusal::Length(1));
     }
     let from = 5 + 32 * k;
-    if !hash_is(block, &inode[from..from + 32]) {
+    if !sha256::is_hash(block, &inode[from..from + 32]) {
         return Check::Refused(Refusal::WrongHash(1));
     }
     Check::Passed

@@ -1,6 +1,6 @@
 -- What one block says, by cases: each test that is passed or failed, with the answer that follows.
 use Prim.Native.Nat.{ℕ, zero, suc, _-_, _≤_, _<_}
-use mathlib.Core.Bool.{Bool, true, false, _&&_, _||_}
+use mathlib.Core.Bool.{true, false, _&&_, _||_}
 use mathlib.Core.List.{List}
 use mathlib.Core.Logic.{⊎-elim}
 use mathlib.Core.Path.{_≡_, sym, ap, _∙_}
@@ -9,14 +9,13 @@ use native.Mathlib.Nat.{eq-zero-or-pos}
 use native.Mathlib.Omega.{arith}
 use lib.Dec.{leb, eqb}
 use lib.ListN.{length}
-use borrow.Author.Tests.{eqb-true, eq-eqb, ne-eqb, leb-true, le-leb, lt-ltb, le-ltb}
+use borrow.Author.Tests.{eqb-true, eq-eqb, ne-eqb, leb-true, lt-ltb, le-ltb}
 use Rattle.search.specs.Search.{find, same}
 use Rattle.search.proofs.Bool.{both-true, bool-cases}
-use Rattle.refusal.specs.Answer.{accepted}
 use Rattle.refusal.specs.Order.{inOrder}
-use Rattle.refusal.specs.Result.{left}
 use Rattle.sha256.specs.Sha256.{sha256}
-use Rattle.sha256.specs.Hash.{hash}
+use Rattle.sha256.specs.Hash.{isHash}
+use Rattle.sha256.proofs.Laws.{is-hash}
 use Rattle.itable.specs.Block.{kind, used, number, value, kindDue, usedDue, ascending, unusedZero, firstDue, wellFormed}
 use Rattle.itable.specs.Lookup.{absent, entryIn, lastAtMost, known}
 use Rattle.itable.specs.Lookup as itable
@@ -92,32 +91,27 @@ module _ (due first : ℕ) (b : List ℕ) (f : wellFormed due first b ≡ true) 
             ⊎-elim (λ o. absurd (z (sym e ∙ o))) (λ o. o) (eq-zero-or-pos (kind b))
       ]
 
--- The block's hash as it was computed, compared with the wanted one.
-pub hash-read :
-    (b wanted before : List ℕ) {digest : List ℕ} {r : Bool} → length b ≡ 642 → digest ≡ left (hash b 32) before →
-    r ≡ same digest wanted → r ≡ same (sha256 b) wanted
-unfolding hash inOrder
-hash-read b wanted before l e q =
-    let h : hash b 32 ≡ accepted (sha256 b) = rw (le-leb (length b) 65536 (omega arith)) in
-    q ∙ ap (λ x. same x wanted) (e ∙ ap (λ a. left a before) h)
+-- The block at its place: its hash, then its form.
+module _ (b : List ℕ) (l : length b ≡ 642) (due first : ℕ) (wanted : List ℕ) (i : ℕ) where
+  hashed : same (sha256 b) wanted ≡ isHash b wanted
+  hashed = sym (is-hash b wanted (omega arith))
 
-module _ (b : List ℕ) (due first : ℕ) (wanted : List ℕ) (i : ℕ) where
-  pub other-hash : same (sha256 b) wanted ≡ false → Consulted b due first wanted i (Ends WrongHash)
+  pub other-hash : isHash b wanted ≡ false → Consulted b due first wanted i (Ends WrongHash)
   unfolding inOrder
   other-hash e =
-      record { says = λ left d on. rw e; slot = omega arith; some-kind = λ l. absurd (omega arith) }
+      record { says = λ left d on. rw (hashed, e); slot = omega arith; some-kind = λ l. absurd (omega arith) }
 
-  module _ (e : same (sha256 b) wanted ≡ true) where
+  module _ (e : isHash b wanted ≡ true) where
     pub not-formed : wellFormed due first b ≡ false → Consulted b due first wanted i (Ends Malformed)
     unfolding inOrder
     not-formed f =
-        record { says = λ left d on. rw (e, f); slot = omega arith; some-kind = λ l. absurd (omega arith) }
+        record { says = λ left d on. rw (hashed, e, f); slot = omega arith; some-kind = λ l. absurd (omega arith) }
 
     pub searched : wellFormed due first b ≡ true → (r : Step) → Searched b i r → Consulted b due first wanted i r
     unfolding inOrder
     searched f r s =
         record {
-          says = λ left d on. rw (e, f) (s .says left d on);
+          says = λ left d on. rw (hashed, e, f) (s .says left d on);
           slot = omega (arith, s .slot, few-used due first b f);
           some-kind = λ l. a-kind due first b f;
         }

@@ -1,4 +1,5 @@
--- One consulted block: how the lookup ends at it, or the slot along which it goes on.
+-- One consulted block: how the lookup ends at it, or the slot along which it goes on. It serves the contracts within the crate; what the
+-- lookup promises is in Looked, and does not mention it.
 use Prim.Native.Nat.{ℕ, suc, _≤_, _<_}
 use mathlib.Core.List.{List, [], _∷_}
 use mathlib.Core.Path.{_≡_}

@@ -89,9 +89,7 @@ fn one_block(b: &[u8], due: u8, first: u64, wanted: &[u8], number: u64) -> Step
     requires { ⌜ length (now b) ≡ 642 ⌝ }
     ensures { λ r. ⌜ Consulted (now (b .entry)) due first (now (wanted .entry)) number r ⌝ }
 {
-    let mut digest = [0u8; 32];
-    sha256::sha256(b, &mut digest);
-    if !search::equal(&digest, wanted) {
+    if !sha256::is_hash(b, wanted) {
         return Step::Ends(End::WrongHash);
     }
     if !block::well_formed(due, first, b) {

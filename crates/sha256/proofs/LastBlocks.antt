@@ -4,21 +4,20 @@ use mathlib.Core.Path.{_≡_, refl, ap, _∙_}
 use mathlib.Core.List.{List, [], _∷_, _++_, append-assoc}
 use native.Mathlib.Omega.{arith}
 use lib.ListN.{length, take, drop, set, replicate, drop-of-length-le, length-append, length-drop, length-replicate, replicate-append-replicate}
-use lib.Seq.{take-append-le, drop-append-le, take-all, take-at, drop-at, drop-drop, take-length, set-at}
+use lib.Seq.{drop-append-le, take-all, take-at, drop-at, drop-drop, take-length, set-at}
+use Rattle.layout.specs.Bytes.{bytes4, bytes8}
+use Rattle.layout.proofs.Bytes.{length-bytes4}
+use Rattle.layout.proofs.Parts.{part-append}
 use Rattle.sha256.specs.declared.State.{State}
 use Rattle.sha256.proofs.Stores.{put}
-use Rattle.sha256.specs.Sha256.{bytes4, padded, compressed, hashed}
+use Rattle.sha256.specs.Sha256.{padded, compressed, hashed}
 
 -- What follows the message's whole blocks does not change the hash value after them.
 pub hashed-prefix : (m p : List ℕ) (i : ℕ) → 64 * i ≤ length m → hashed (m ++ p) i ≡ hashed m i
 unfolding hashed
 hashed-prefix m p zero h = refl
 hashed-prefix m p (suc i) h =
-    rw (
-      hashed-prefix m p i (omega arith),
-      drop-append-le (64 * i) m p (omega arith),
-      take-append-le 64 (drop (64 * i) m) p (simp length-drop (omega arith)),
-    )
+    rw (hashed-prefix m p i (omega arith), part-append 64 m p i (omega arith))
 
 -- One block more, lent as the part of the message from `at` to `at + 64`.
 pub next-block : (m : List ℕ) (at : ℕ) (s r : State) →
@@ -46,7 +45,7 @@ rest m = drop (64 * (length m / 64)) m
 module _ (m : List ℕ) (few : length m ≤ 65536) where
   -- The length in bits needs one word, and the bits 0 are whole bytes, of which the length's first word has four more.
   padded-is : padded m ≡ m ++ ((128 ∷ replicate ((119 - length m % 64) % 64 + 4) 0) ++ bytes4 (8 * length m))
-  unfolding padded
+  unfolding padded bytes8 bytes4
   padded-is =
       let z : ((960 - (8 * length m + 1) % 512) % 512 - 7) / 8 ≡ (119 - length m % 64) % 64 = omega arith in
       let hi : 8 * length m / 2 ^ 32 ≡ 0 = omega arith in
@@ -60,7 +59,7 @@ module _ (m : List ℕ) (few : length m ≤ 65536) where
       )
 
   padded-length : length (padded m) ≡ length m + 9 + (119 - length m % 64) % 64
-  padded-length = rw padded-is (simp (length-append, length-replicate) (omega arith))
+  padded-length = rw padded-is (simp (length-append, length-replicate, length-bytes4) (omega arith))
 
   whole-blocks : hashed (padded m) (length m / 64) ≡ hashed m (length m / 64)
   whole-blocks = rw padded-is (hashed-prefix m _ (length m / 64) (omega arith))
@@ -98,7 +97,7 @@ module _ (m : List ℕ) (few : length m ≤ 65536) where
         take-all
             64
             ((rest m ++ (128 ∷ replicate (59 - length m % 64) 0)) ++ bytes4 (8 * length m))
-            (simp (length-append, rest-length, length-replicate) (omega arith)),
+            (simp (length-append, rest-length, length-replicate, length-bytes4) (omega arith)),
       )
 
   -- Where it does not, the rest's block ends with zeros, and one more block holds the length.
@@ -107,7 +106,7 @@ module _ (m : List ℕ) (few : length m ≤ 65536) where
       (compressed (hashed m (length m / 64)) (rest m ++ (128 ∷ replicate (63 - length m % 64) 0)))
       (replicate 60 0 ++ bytes4 (8 * length m)) ≡
       hashed (padded m) (length (padded m) / 64)
-  unfolding hashed
+  unfolding hashed bytes4
   two-blocks h =
       let n : length (padded m) / 64 ≡ suc (suc (length m / 64)) = omega (arith, padded-length) in
       let a : List ℕ = rest m ++ (128 ∷ replicate (63 - length m % 64) 0) in
@@ -158,6 +157,7 @@ module _ (m : List ℕ) (few : length m ≤ 65536) where
       l ≡ put q 60 (length m * 8) →
       r ≡ compressed v l →
       r ≡ hashed (padded m) (length (padded m) / 64)
+  unfolding bytes4
   closed-one t q h et ev eq el er =
       let z : 63 - length m % 64 ≡ 59 - length m % 64 + 4 = omega arith in
       let a : List ℕ = rest m ++ (128 ∷ replicate (59 - length m % 64) 0) in
@@ -191,5 +191,6 @@ module _ (m : List ℕ) (few : length m ≤ 65536) where
       l ≡ put q 60 (length m * 8) →
       r ≡ compressed v l →
       r ≡ hashed (padded m) (length (padded m) / 64)
+  unfolding bytes4
   closed-two t q h et es ev eq el er =
       let bits : length m * 8 ≡ 8 * length m = omega arith in rw (er, ev, es, el, eq, opened t et, bits) (two-blocks h)

@@ -1,18 +1,19 @@
 -- A turn keeps the queue of sixteen words: the word of the round makes way for the one sixteen after it, which the
 -- recurrence gives from words that all stand in the queue. So the working variables stay those of FIPS.
-use Prim.Native.Nat.{ℕ, suc, _+_, _%_, _^_, _<_}
+use Prim.Native.Nat.{ℕ, suc, _+_, _*_, _%_, _^_, _<_}
 use mathlib.Core.Path.{_≡_, refl, ap, sym, _∙_}
 use mathlib.Core.Logic.{⊎-elim}
 use mathlib.Core.List.{List}
 use native.Mathlib.Omega.{arith}
 use native.Mathlib.Nat.{eq-or-lt-of-le, mod-add-mod, add-mod-mod}
 use native.Mathlib.Numerals.{add-one}
-use borrow.Author.Count.{below-more}
 use lib.ListN.{length, getD, set, length-set}
 use lib.Seq.{getD-set-same, getD-set-other}
+use Rattle.layout.specs.Bytes.{four, values}
+use Rattle.layout.proofs.Values.{length-values, getD-values}
 use Rattle.sha256.specs.declared.State.{State}
-use Rattle.sha256.specs.Sha256.{_⊞_, σ0, σ1, wordAt, K, W, roundOf, rounds}
-use Rattle.sha256.specs.Schedule.{Rolling}
+use Rattle.sha256.specs.Sha256.{_⊞_, σ0, σ1, K, W, roundOf, rounds}
+use Rattle.sha256.specs.Rolling.{Rolling}
 use Rattle.sha256.proofs.Recurrence.{recurrence, sixteen-on}
 
 -- The order in which the code adds up T1.
@@ -20,26 +21,17 @@ pub reordered : (h s c k w : ℕ) → h ⊞ s ⊞ c ⊞ k ⊞ w ≡ h ⊞ (k ⊞
 reordered h s c k w =
     let e : h + s + c + k + w ≡ h + (k + w) + c + s = omega arith in simp (mod-add-mod, add-mod-mod) (ap (λ (x : ℕ). x % 2 ^ 32) e)
 
--- One more word of the block is loaded.
-pub filled :
-    (w : List ℕ) (f : ℕ → ℕ) (t x : ℕ)
-    → t < length w
-    → ((u : ℕ) → u < t → getD w u 0 ≡ f u)
-    → x ≡ f t
-    → (u : ℕ) → u < t + 1 → getD (set w t x) u 0 ≡ f u
-filled w f t x h before e =
-    below-more (λ (u : ℕ). getD (set w t x) u 0 ≡ f u) t
-    (λ u l. rw (getD-set-other w t u x 0 (λ q. omega arith)) (before u l))
-    (getD-set-same w t x 0 h ∙ e)
-
--- The queue before the first round is the block.
-pub loaded : (b : List ℕ) (z : State) (w : List ℕ) → length w ≡ 16 → ((t : ℕ) → t < 16 → getD w t 0 ≡ wordAt b t) → Rolling b z 0 z w
+-- The queue before the first round is the block's words.
+pub loaded : (b : List ℕ) (z : State) (w : List ℕ) → w ≡ values (λ t. four b (4 * t)) 0 16 → Rolling b z 0 z w
 unfolding rounds
-loaded b z w l h =
+loaded b z w e =
     record {
       state = refl;
-      long = l;
-      queue = λ u p q. let e : u % 16 ≡ u = omega arith in rw e (h u q ∙ sym (recurrence b u .0 q));
+      long = ap length e ∙ length-values (λ t. four b (4 * t)) 0 16;
+      queue = λ u p q.
+          let m : u % 16 ≡ u = omega arith in
+          let n : 0 + u ≡ u = omega arith in
+          rw (m, e, getD-values (λ t. four b (4 * t)) 0 16 u q, n) (sym (recurrence b u .0 q));
     }
 
 module _

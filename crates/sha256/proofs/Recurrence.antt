@@ -1,6 +1,6 @@
 -- The schedule as FIPS's recurrence: a longer beginning of the schedule keeps the words of a shorter one, and its
 -- last word is the one that step 1 gives.
-use Prim.Native.Nat.{ℕ, zero, suc, _+_, _-_, _<_, _≤_}
+use Prim.Native.Nat.{ℕ, zero, suc, _+_, _-_, _*_, _<_, _≤_}
 use mathlib.Core.Path.{_≡_, refl, sym, _∙_}
 use mathlib.Core.Bool.{cond}
 use mathlib.Core.List.{List, []}
@@ -10,7 +10,8 @@ use borrow.Author.Tests.{lt-ltb, le-ltb}
 use lib.Dec.{ltb}
 use lib.ListN.{length, getD, length-append, List·getD-append}
 use lib.Seq.{getD-at}
-use Rattle.sha256.specs.Sha256.{_⊞_, σ0, σ1, wordAt, expanded, schedule, W}
+use Rattle.layout.specs.Bytes.{four}
+use Rattle.sha256.specs.Sha256.{_⊞_, σ0, σ1, expanded, schedule, W}
 use Rattle.sha256.specs.Schedule.{Recurrence}
 
 module _ (b : List ℕ) where
@@ -28,7 +29,7 @@ module _ (b : List ℕ) where
   stands : (t u : ℕ) → u < t → t ≤ 64 → getD (schedule b t) u 0 ≡ W b u
   stands t u h l = let e : t + (64 - t) ≡ 64 = omega arith in sym (rw e at (kept t (64 - t) u h))
 
-  made : (t : ℕ) → t < 64 → W b t ≡ cond (ltb t 16) (wordAt b t) (expanded (schedule b t) t)
+  made : (t : ℕ) → t < 64 → W b t ≡ cond (ltb t 16) (four b (4 * t)) (expanded (schedule b t) t)
   unfolding schedule
   made t h = sym (stands (suc t) t (omega arith) (omega arith)) ∙ getD-at (schedule b t) _ [] 0 t (long t)
 

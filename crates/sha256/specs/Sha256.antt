@@ -4,7 +4,8 @@ use mathlib.Core.Bool.{cond}
 use mathlib.Core.List.{List, [], _∷_, _++_}
 use lib.Bits.{bitAnd, bitOr, bitXor}
 use lib.Dec.{ltb}
-use lib.ListN.{length, getD, take, drop, replicate}
+use lib.ListN.{length, getD, replicate}
+use Rattle.layout.specs.Bytes.{four, bytes4, bytes8, part}
 use Rattle.sha256.specs.declared.State.{State}
 
 -- 2.2.2 and 3.2: operations on words. Addition is modulo 2 ^ 32.
@@ -54,20 +55,11 @@ K =
 abbrev pub zeroBits : ℕ → ℕ
 zeroBits l = (960 - (l + 1) % 512) % 512
 
-abbrev pub bytes4 : ℕ → List ℕ
-bytes4 x = x / 2 ^ 24 ∷ x / 2 ^ 16 % 256 ∷ x / 2 ^ 8 % 256 ∷ x % 256 ∷ []
-
 unfoldable pub padded : List ℕ → List ℕ
-padded m =
-    m ++ (128 ∷ (replicate ((zeroBits (8 * length m) - 7) / 8) 0 ++ (bytes4 (8 * length m / 2 ^ 32) ++ bytes4 (8 * length m % 2 ^ 32))))
+padded m = m ++ (128 ∷ (replicate ((zeroBits (8 * length m) - 7) / 8) 0 ++ bytes8 (8 * length m)))
 
--- 5.2.1: the padded message is blocks of sixteen words; block i, and word t of a block, big-endian.
-abbrev pub blockAt : List ℕ → ℕ → List ℕ
-blockAt m i = take 64 (drop (64 * i) m)
-
-abbrev pub wordAt : List ℕ → ℕ → ℕ
-wordAt b t =
-    getD b (4 * t) 0 * 2 ^ 24 + getD b (4 * t + 1) 0 * 2 ^ 16 + getD b (4 * t + 2) 0 * 2 ^ 8 + getD b (4 * t + 3) 0
+-- 5.2.1: the padded message m is parsed into blocks of sixteen words: block i is `part 64 m i`, and word t of a block b is
+-- `four b (4 * t)`, big-endian (3.1).
 
 -- 5.3.3: the initial hash value, the first thirty-two bits of the fractional parts of the square roots of the first eight primes.
 abbrev pub H0 : State
@@ -90,7 +82,7 @@ expanded w t = σ1 (getD w (t - 2) 0) ⊞ getD w (t - 7) 0 ⊞ σ0 (getD w (t - 
 
 unfoldable pub schedule : List ℕ → ℕ → List ℕ
 schedule b zero = []
-schedule b (suc t) = schedule b t ++ (cond (ltb t 16) (wordAt b t) (expanded (schedule b t) t) ∷ [])
+schedule b (suc t) = schedule b t ++ (cond (ltb t 16) (four b (4 * t)) (expanded (schedule b t) t) ∷ [])
 
 -- The word W t of the schedule, for t below 64.
 abbrev pub W : List ℕ → ℕ → ℕ
@@ -140,7 +132,7 @@ compressed s b = added s (rounds b s 64)
 -- The hash value after i blocks of the padded message m.
 unfoldable pub hashed : List ℕ → ℕ → State
 hashed m zero = H0
-hashed m (suc i) = compressed (hashed m i) (blockAt m i)
+hashed m (suc i) = compressed (hashed m i) (part 64 m i)
 
 -- The eight words of a hash value, end to end.
 unfoldable pub bytesOf : State → List ℕ

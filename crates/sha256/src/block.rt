@@ -4,9 +4,10 @@ ghost use mathlib.Core.Path.{_≡_};
 ghost use mathlib.Core.List.{List};
 ghost use Prim.Native.Nat.{ℕ, _+_, _*_, _%_, _^_, _<_, _≤_};
 ghost use lib.ListN.{length, getD};
+ghost use Rattle.layout.specs.Bytes.{four, values};
 ghost use Rattle.sha256.specs.declared.State.{State};
-ghost use Rattle.sha256.specs.Sha256.{K, _⊞_, σ0, σ1, wordAt, roundOf, rounds, added, compressed};
-ghost use Rattle.sha256.specs.Schedule.{Rolling};
+ghost use Rattle.sha256.specs.Sha256.{K, _⊞_, σ0, σ1, roundOf, rounds, added, compressed};
+ghost use Rattle.sha256.specs.Rolling.{Rolling};
 use crate::State;
 use crate::word::big_sigma0;
 use crate::word::big_sigma1;
@@ -123,7 +124,8 @@ fn last(s: State, k: &[u32; 64], w: &[u32; 16]) -> State
     last_turn(s15, k, w, 15)
 }
 
-// A word of its four bytes.
+// A word of its four bytes. A block's 64 are there by contract; layout::u32_at would ask for their
+// end, which is felt here.
 fn word_of(a: u8, b: u8, c: u8, d: u8) -> u32
     ensures { λ r. ⌜ r ≡ a * 2 ^ 24 + b * 2 ^ 16 + c * 2 ^ 8 + d ⌝ }
 {
@@ -134,7 +136,7 @@ fn word_of(a: u8, b: u8, c: u8, d: u8) -> u32
 fn load(block: &[u8], w: &mut [u32; 16])
     requires { ⌜ length (now block) ≡ 64 ⌝ }
     requires { ⌜ length (now w) ≡ 16 ⌝ }
-    ensures { λ r. ⌜ (length (now (w .exit)) ≡ 16) × ((t : ℕ) → t < 16 → getD (now (w .exit)) t 0 ≡ wordAt (now (block .entry)) t) ⌝ }
+    ensures { λ r. ⌜ now (w .exit) ≡ values (λ t. four (now (block .entry)) (4 * t)) 0 16 ⌝ }
 {
     let mut t = 0;
     while t < 16 {

@@ -4,17 +4,16 @@ ghost use mathlib.Core.Path.{_≡_};
 ghost use Prim.Native.Nat.{_+_, _≤_};
 ghost use mathlib.Core.List.{_++_};
 ghost use lib.ListN.{length, take, drop};
-ghost use Rattle.sha256.specs.Sha256.{bytes4, bytesOf};
+ghost use Rattle.layout.specs.Bytes.{bytes4};
+ghost use Rattle.sha256.specs.Sha256.{bytesOf};
 
 // Puts the four bytes of x at i.
 pub(crate) fn store(out: &mut [u8], i: usize, x: u32)
     requires { ⌜ i + 4 ≤ length (now out) ⌝ }
     ensures { λ r. ⌜ now (out .exit) ≡ take i (now (out .entry)) ++ (bytes4 x ++ drop (i + 4) (now (out .entry))) ⌝ }
 {
-    out[i] = (x / 16777216) as u8;
-    out[i + 1] = (x / 65536 % 256) as u8;
-    out[i + 2] = (x / 256 % 256) as u8;
-    out[i + 3] = (x % 256) as u8;
+    let b = layout::u32_bytes(x);
+    bytes::copy(&b, &mut out[i..i + 4]);
 }
 
 // Writes the eight words of a hash value.

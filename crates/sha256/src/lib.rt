@@ -1,9 +1,9 @@
 // SHA-256 as FIPS 180-4 defines it: the hash of every block, inode and i-table of this client.
 //
-// The one call promises, for every input, either the standard's 32 bytes or a refusal by
-// length. It allocates nothing and keeps nothing between calls. It does not hash a message
-// that arrives in parts, nor one that does not end on a whole byte, and it does not wipe what
-// it leaves on the stack: no message hashed here is secret.
+// One call gives, for every input, either the standard's 32 bytes or a refusal by length; another
+// says whether a hash is a message's. They allocate nothing and keep nothing between calls. They do
+// not hash a message that arrives in parts, nor one that does not end on a whole byte, and do not
+// wipe what they leave on the stack: no message hashed here is secret.
 
 mod block;
 mod digest;
@@ -12,9 +12,10 @@ mod word;
 
 use refusal::Check;
 use refusal::Refusal;
+ghost use mathlib.Core.Path.{_≡_};
 ghost use lib.ListN.{length};
 ghost use Rattle.refusal.specs.Result.{Gives};
-ghost use Rattle.sha256.specs.Hash.{hash};
+ghost use Rattle.sha256.specs.Hash.{hash, isHash};
 
 // The eight working variables, and a hash value's eight words.
 pub struct State {
@@ -114,4 +115,17 @@ pub fn sha256(message: &[u8], out: &mut [u8]) -> Check
     s = padding::finish(message, s, &k);
     digest::write(out, s);
     Check::Passed
+}
+
+// Whether `wanted` is the SHA-256 hash of `message`, all its 32 bytes. Both are only read. Of a
+// message of over 65,536 bytes no hash is.
+pub fn is_hash(message: &[u8], wanted: &[u8]) -> bool
+    ensures { λ r. ⌜ r ≡ isHash (now (message .entry)) (now (wanted .entry)) ⌝ }
+{
+    let mut digest = [0u8; 32];
+    let c = sha256(message, &mut digest);
+    let Check::Passed = c else {
+        return false;
+    };
+    search::equal(&digest, wanted)
 }

@@ -1,4 +1,5 @@
--- What inner blocks are written over: "each slot the lowest i-number under a child and the child's SHA-256".
+-- What inner blocks are written over: "each slot the lowest i-number under a child and the child's SHA-256". It serves the contracts
+-- within the crate; what the writer promises is in Written, and does not mention it.
 use Prim.Native.Nat.{ℕ, _+_, _<_}
 use mathlib.Core.List.{List}
 use mathlib.Core.Path.{_≡_}

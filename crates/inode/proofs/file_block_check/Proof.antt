@@ -24,7 +24,7 @@ block-length-requires c κs = search needs
 
 returns-2 : tie.Need-returns-2
 returns-2 c =
-    wrong-length _ _ _ _ (c .before .before .before .before .u32-at .ensures) _ (c .before .before .before .file-blocks .ensures) (c .before .before .if1 .left) _ (c .before .block-length .ensures .0) (c .if2 .taken)
+    wrong-length _ _ _ _ (c .before .before .before .before .u32-at .ensures) _ (c .before .before .before .file-blocks .ensures) (c .before .before .if1 .left) _ (c .before .block-length .ensures) (c .if2 .taken)
 
 mul-from : tie.Need-mul-from
 mul-from c = search needs
@@ -32,28 +32,28 @@ mul-from c = search needs
 add-from : tie.Need-add-from
 add-from c = search needs
 
-add-hash-is : tie.Need-add-hash-is
-add-hash-is c = search needs
+add-is-hash : tie.Need-add-is-hash
+add-is-hash c = search needs
 
-sub-hash-is : tie.Need-sub-hash-is
-sub-hash-is c = search needs
+sub-is-hash : tie.Need-sub-is-hash
+sub-is-hash c = search needs
 
-part-hash-is-start : tie.Need-part-hash-is-start
-part-hash-is-start c = search needs
+part-is-hash-start : tie.Need-part-is-hash-start
+part-is-hash-start c = search needs
 
-part-hash-is-end : tie.Need-part-hash-is-end
-part-hash-is-end c = search needs
+part-is-hash-end : tie.Need-part-is-hash-end
+part-is-hash-end c = search needs
 
-hash-is-requires : tie.Need-hash-is-requires
-hash-is-requires c κs = search needs
+is-hash-requires : tie.Need-is-hash-requires
+is-hash-requires c κs = search needs
 
 returns-3 : tie.Need-returns-3
 returns-3 c =
-    wrong-block _ _ _ _ (c .before .before .before .before .before .before .before .u32-at .ensures) _ (c .before .before .before .before .before .before .file-blocks .ensures) (c .before .before .before .before .before .if1 .left) _ (c .before .before .before .before .block-length .ensures .0) (c .before .before .before .if2 .left) (sym (c .before .hash-is .ensures) ∙ not-true _ (c .if3 .taken))
+    wrong-block _ _ _ _ (c .before .before .before .before .before .before .before .u32-at .ensures) _ (c .before .before .before .before .before .before .file-blocks .ensures) (c .before .before .before .before .before .if1 .left) _ (c .before .before .before .before .block-length .ensures) (c .before .before .before .if2 .left) (sym (c .before .is-hash .ensures) ∙ not-true _ (c .if3 .taken))
 
 returns-4 : tie.Need-returns-4
 returns-4 c =
-    block-passes _ _ _ _ (c .before .before .before .before .before .before .before .u32-at .ensures) _ (c .before .before .before .before .before .before .file-blocks .ensures) (c .before .before .before .before .before .if1 .left) _ (c .before .before .before .before .block-length .ensures .0) (c .before .before .before .if2 .left) (sym (c .before .hash-is .ensures) ∙ not-false _ (c .if3 .left))
+    block-passes _ _ _ _ (c .before .before .before .before .before .before .before .u32-at .ensures) _ (c .before .before .before .before .before .before .file-blocks .ensures) (c .before .before .before .before .before .if1 .left) _ (c .before .before .before .before .block-length .ensures) (c .before .before .before .if2 .left) (sym (c .before .is-hash .ensures) ∙ not-false _ (c .if3 .left))
 
 pub file-block-check-spec : {M : Type 1} → statement M
 file-block-check-spec =
@@ -67,10 +67,10 @@ file-block-check-spec =
     returns-2
     mul-from
     add-from
-    add-hash-is
-    sub-hash-is
-    part-hash-is-start
-    part-hash-is-end
-    hash-is-requires
+    add-is-hash
+    sub-is-hash
+    part-is-hash-start
+    part-is-hash-end
+    is-hash-requires
     returns-3
     returns-4)

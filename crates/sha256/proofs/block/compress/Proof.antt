@@ -4,7 +4,7 @@ use mathlib.Core.Path.{_≡_, refl, ap, _∙_}
 use native.Mathlib.Omega.{arith}
 use borrow.Author.Needs.{needs}
 use Rattle.sha256.specs.Sha256.{added, compressed}
-use Rattle.sha256.specs.Schedule.{Rolling}
+use Rattle.sha256.specs.Rolling.{Rolling}
 use Rattle.sha256.proofs.Queue.{loaded}
 use Rattle.sha256.proofs.block.compress.Statement.{statement}
 use Rattle.sha256.proofs.block.compress.Tie as tie
@@ -19,7 +19,7 @@ load-requires : tie.Need-load-requires Inv-loop μ-loop
 load-requires c κs = search needs
 
 loop-holds : tie.Need-loop-holds Inv-loop μ-loop
-loop-holds c = (omega arith, refl, loaded _ _ _ (c .load .ensures .0) (c .load .ensures .1))
+loop-holds c = (omega arith, refl, loaded _ _ _ (c .load .ensures))
 
 sixteen-requires : tie.Need-sixteen-requires Inv-loop μ-loop
 sixteen-requires c κs = search needs

@@ -1,22 +1,24 @@
 -- Word t is made of its four bytes and stored at t. The invariant: the words below t are loaded.
-use Prim.Native.Nat.{ℕ, _-_, _<_, _≤_}
-use mathlib.Core.Path.{_≡_, _∙_}
+use Prim.Native.Nat.{_-_, _*_, _≤_}
+use mathlib.Core.Path.{_≡_, refl, sym, _∙_}
 use native.Mathlib.Omega.{arith}
 use borrow.Author.Needs.{needs}
-use lib.ListN.{length, getD, length-set}
-use Rattle.sha256.specs.Sha256.{wordAt}
-use Rattle.sha256.proofs.Queue.{filled}
+use lib.ListN.{length, take, length-set}
+use lib.Seq.{take-all}
+use Rattle.layout.specs.Bytes.{four, values}
+use Rattle.layout.proofs.Values.{filled}
 use Rattle.sha256.proofs.block.load.Statement.{statement}
 use Rattle.sha256.proofs.block.load.Tie as tie
 
 abbrev Inv-loop : tie.InvT-loop
-Inv-loop block w₀ t₀ w t = (t ≤ 16) × (length w ≡ 16) × ((u : ℕ) → u < t → getD w u 0 ≡ wordAt block u)
+Inv-loop block w₀ t₀ w t = (t ≤ 16) × (length w ≡ 16) × (take t w ≡ values (λ u. four block (4 * u)) 0 t)
 
 abbrev μ-loop : tie.MeasureT-loop
 μ-loop block w₀ t₀ w t = 16 - t
 
 loop-holds : tie.Need-loop-holds Inv-loop μ-loop
-loop-holds c = (omega arith, c .before .pre .1, λ u h. absurd (omega arith))
+unfolding values
+loop-holds c = (omega arith, c .before .pre .1, refl)
 
 mul-word-of : tie.Need-mul-word-of Inv-loop μ-loop
 mul-word-of c = search needs
@@ -67,15 +69,19 @@ loop-less : tie.Need-loop-less Inv-loop μ-loop
 loop-less c = search needs
 
 loop-again : tie.Need-loop-again Inv-loop μ-loop
+unfolding four
 loop-again c =
     let l = c .before .before .before .before .before .before in (
       omega arith,
       length-set (l .loop .w) (l .loop .t) (c .word-of .result) ∙ l .loop .inv .1,
-      filled (l .loop .w) (wordAt (l .before .before .args .block .now)) (l .loop .t) (c .word-of .result) (omega arith) (l .loop .inv .2) (c .word-of .ensures),
+      filled (λ u. four (l .before .before .args .block .now) (4 * u)) (l .loop .w) (l .loop .t) (c .word-of .result) (omega arith) (l .loop .inv .2) (c .word-of .ensures),
     )
 
 returns : tie.Need-returns Inv-loop μ-loop
-returns c = (c .before .loop .inv .1, λ t h. c .before .loop .inv .2 t (omega arith))
+returns c =
+    let l = c .before .loop in
+    let e : l .t ≡ 16 = omega arith in
+    sym (take-all 16 (l .w) (omega (arith, l .inv .1))) ∙ rw e at (l .inv .2)
 
 pub load-spec : {M : Type 1} → statement M
 load-spec =

@@ -1,65 +1,48 @@
--- Each store is one byte of the word at its place, so the four are the word's bytes end to end (`stored`). The places are within the
--- buffer by what the caller shows; there is no loop.
+-- The bytes of the word, copied to their place in the buffer, which has room for them by what the caller shows. There is no loop.
 use borrow.Author.Needs.{needs}
-use native.Mathlib.Omega.{arith}
-use lib.ListN.{length-set}
 use Rattle.sha256.proofs.Stores.{stored}
 use Rattle.sha256.proofs.digest.store.Statement.{statement}
 use Rattle.sha256.proofs.digest.store.Tie as tie
 
-cast-out : tie.Need-cast-out
-cast-out c = search needs
+u32-bytes-requires : tie.Need-u32-bytes-requires
+u32-bytes-requires c κs = search needs
 
-slice-write-out : tie.Need-slice-write-out
-slice-write-out c = search needs
+slice-aggregate-copy : tie.Need-slice-aggregate-copy
+slice-aggregate-copy c = search needs
 
-cast-out-2 : tie.Need-cast-out-2
-cast-out-2 c = search needs
+add-copy : tie.Need-add-copy
+add-copy c = search needs
 
-add-out : tie.Need-add-out
-add-out c = search needs
+sub-copy : tie.Need-sub-copy
+sub-copy c = search needs
 
-slice-write-out-2 : tie.Need-slice-write-out-2
-slice-write-out-2 c = simp length-set (omega arith)
+part-copy-start : tie.Need-part-copy-start
+part-copy-start c = search needs
 
-cast-out-3 : tie.Need-cast-out-3
-cast-out-3 c = search needs
+part-copy-end : tie.Need-part-copy-end
+part-copy-end c = search needs
 
-add-out-2 : tie.Need-add-out-2
-add-out-2 c = search needs
-
-slice-write-out-3 : tie.Need-slice-write-out-3
-slice-write-out-3 c = simp length-set (omega arith)
-
-cast-out-4 : tie.Need-cast-out-4
-cast-out-4 c = search needs
-
-add-out-3 : tie.Need-add-out-3
-add-out-3 c = search needs
-
-slice-write-out-4 : tie.Need-slice-write-out-4
-slice-write-out-4 c = simp length-set (omega arith)
+copy-requires : tie.Need-copy-requires
+copy-requires c κs = search needs
 
 same-length : tie.Need-same-length
 same-length c = search needs
 
 returns : tie.Need-returns
-returns c = stored (c .args .out .now) (c .args .i) (c .args .x) (c .pre)
+returns c =
+    let a = c .before .before .before .before .before .before .before in
+    stored (a .args .out .now) (a .args .i) (a .args .x) (a .pre) (c .before .before .before .before .before .u32-bytes .ensures) (c .before .before .copy .ensures .1)
 
 pub store-spec : {M : Type 1} → statement M
 store-spec =
     tie.close
     (tie.spec
-    cast-out
-    slice-write-out
-    cast-out-2
-    add-out
-    slice-write-out-2
-    cast-out-3
-    add-out-2
-    slice-write-out-3
-    cast-out-4
-    add-out-3
-    slice-write-out-4
+    u32-bytes-requires
+    slice-aggregate-copy
+    add-copy
+    sub-copy
+    part-copy-start
+    part-copy-end
+    copy-requires
     same-length
     returns)
