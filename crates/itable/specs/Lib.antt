@@ -4,5 +4,7 @@ pub mod Block
 pub mod Table
 pub mod Write
 pub mod Lookup
+pub mod LookupMeaning
 pub mod Inode
+pub mod InodeMeaning
 pub mod Answers

@@ -11,6 +11,7 @@ pub mod NoFork
 pub mod ForkedRun
 pub mod Held
 pub mod Commits
+pub mod CommitMeaning
 pub mod Listing
 pub mod Listings
 pub mod Honest

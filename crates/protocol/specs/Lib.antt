@@ -5,6 +5,7 @@ pub mod Check
 pub mod Server
 pub mod History
 pub mod Meaning
+pub mod CommitMeaning
 pub mod NoFork
 pub mod ForkedRun
 pub mod Turns

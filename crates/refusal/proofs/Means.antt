@@ -3,7 +3,7 @@
 use Prim.Native.Nat.{ℕ, _≤_, _<_}
 use mathlib.Core.Bool.{Bool, true, false, not}
 use mathlib.Core.List.{List, [], _∷_, _++_}
-use mathlib.Core.Logic.{_⊎_, inl, inr, ⊎-elim}
+use mathlib.Core.Logic.{_⊎_, _↔_, inl, inr, ⊎-elim}
 use mathlib.Core.Path.{_≡_, refl, ap, _∙_}
 use native.Mathlib.Omega.{arith}
 use Rattle.search.specs.Search.{find, every}
@@ -55,10 +55,10 @@ module _ {A : Type 0} where
   in-append (stop n p q ∷ ts) us a = refl
 
   module _ (ts : List Step) {P : Type 0} {Q : ℕ → ℕ → ℕ → Type 0} (M : Stage ts P Q) (x : Answer A) where
-    goes-on : P → inOrder ts x ≡ x
+    pub goes-on : P → inOrder ts x ≡ x
     goes-on p = in-stage ts x ∙ ap (λ (r : Answer Unit). andThen r (λ u. x)) (M .accepts p)
 
-    ends : {n p q : ℕ} → Q n p q → inOrder ts x ≡ refused n p q
+    pub ends : {n p q : ℕ} → Q n p q → inOrder ts x ≡ refused n p q
     ends w = in-stage ts x ∙ ap (λ (r : Answer Unit). andThen r (λ u. x)) (M .refuses w)
 
   -- A stage, and then the answer.
@@ -121,6 +121,10 @@ tests-mean bs i j k to from =
       refuses = λ {n} {p} {q} w. rw (w .1, w .2, w .3) (alike-stops bs i j k (λ a. w .0 (to a)));
       cases = ⊎-elim (λ a. inl (to a)) (λ h. inr (i, j, k, (λ p. h (from p), refl, refl, refl))) (all-or-not bs);
     }
+
+-- One test that decides P.
+pub test-means : {P : Type 0} (b : Bool) (i j k : ℕ) → (b ≡ true) ↔ P → Stage (unless b i j k ∷ []) P (Unless P i j k)
+test-means b i j k m = tests-mean (b ∷ []) i j k (λ t. m .0 (t .0)) (λ w. (m .1 w, tt))
 
 -- A test over places, refused with the first at which it fails.
 abbrev pub AtFirst : (ℕ → Type 0) → ℕ → ℕ → ℕ → ℕ → ℕ → Type 0

@@ -1,0 +1,62 @@
+-- What a caller in C reads in an answer's number, with the functions that include/sundr.h gives for it.
+use Prim.Native.Nat.{ℕ, _/_, _%_, _^_}
+use mathlib.Core.Bool.{cond}
+use mathlib.Core.List.{List}
+use mathlib.Core.Path.{_≡_}
+use lib.Dec.{eqb}
+use Rattle.refusal.specs.Answer.{Answer, accepted, refused, andThen}
+use Rattle.refusal.specs.Word.{answerWord}
+use Rattle.sha256.specs.Hash.{hash}
+use Rattle.protocol.specs.Check.{check}
+use Rattle.protocol.specs.Server.{commit}
+use Rattle.protocol.specs.declared.Server.{Server}
+use Rattle.itable.specs.Write.{blocksGiven}
+use Rattle.itable.specs.Inode.{Span, blockCheck}
+use Rattle.sundr.specs.Server.{makeAt, listedAt}
+use Rattle.sundr.specs.Lookup.{lookedUp, isFound}
+
+-- `sundr_refusal`: bits 0 to 7.
+abbrev pub refusalIn : ℕ → ℕ
+refusalIn w = w % 2 ^ 8
+
+-- `sundr_first`: bits 8 to 31.
+abbrev pub firstIn : ℕ → ℕ
+firstIn w = w / 2 ^ 8 % 2 ^ 24
+
+-- `sundr_second`: bits 32 to 63.
+abbrev pub secondIn : ℕ → ℕ
+secondIn w = w / 2 ^ 32 % 2 ^ 32
+
+-- The two results of an accepted call.
+pub record Results : Type 0 where
+  pub first : ℕ
+  pub second : ℕ
+
+-- The answer that a caller reads: accepted where the refusal is 0, with two results; else refused, with two positions.
+unfoldable pub answerIn : ℕ → Answer Results
+answerIn w =
+    cond (eqb (refusalIn w) 0) (accepted (record { first = firstIn w; second = secondIn w }))
+    (refused (refusalIn w) (firstIn w) (secondIn w))
+
+-- What is read in the number of an answer is that answer, with its result as the two numbers that tell it.
+abbrev pub IsRead : {A : Type 0} → (A → ℕ) → (A → ℕ) → Answer A → Type 0
+IsRead first second x =
+    answerIn (answerWord first second x) ≡ andThen x (λ a. accepted (record { first = first a; second = second a }))
+
+-- The same where no number tells the result: both are 0.
+abbrev pub IsReadPlain : {A : Type 0} → Answer A → Type 0
+IsReadPlain = IsRead (λ a. 0) (λ a. 0)
+
+-- So it is with every call of include/sundr.h, whatever is given: no number, position or result is too large for its bits. The numbers are
+-- those of the contracts in src/lib.rt.
+pub record AnswersRead : Type 0 where
+  pub sha256 : (message : List ℕ) (room : ℕ) → IsReadPlain (hash message room)
+  pub check : (users user : ℕ) (memory list marks handle : List ℕ) (room : ℕ) → IsReadPlain (check users user memory list marks handle room)
+  pub make : (users : ℕ) (server : List ℕ) → IsReadPlain (makeAt users server)
+  pub list : (server : List ℕ) (room : ℕ) → IsRead (λ n. n) (λ n. 0) (listedAt server room)
+  pub commit : (server : Server) (x : List ℕ) (mark : ℕ) → IsReadPlain (commit server x mark)
+  pub write : (numbers : List ℕ) (handles : List ℕ) (room : ℕ) → IsRead (λ n. n) (λ n. 0) (blocksGiven numbers handles room)
+  pub lookup : (handle : List ℕ) (number : ℕ) (path : List ℕ) (room : ℕ) → IsRead isFound (λ e. 0) (lookedUp handle number path room)
+  pub block :
+      (handle inode : List ℕ) (index : ℕ) (block : List ℕ) →
+      IsRead (λ (a : Span). a .offset) (λ a. a .size) (blockCheck handle inode index block)
