@@ -10,9 +10,10 @@ use Rattle.search.proofs.Bool.{not-both}
 use Rattle.search.proofs.Pairs.{pairs-intro, first-pair-at}
 use Rattle.refusal.specs.Answer.{Answer, accepted, refused}
 use Rattle.refusal.specs.Order.{unless, inOrder, tried}
+use Rattle.protocol.specs.Version.{countsBefore, countsStrictlyBefore}
 use Rattle.protocol.specs.List.{records, recordAt}
 use Rattle.protocol.specs.Check.{ordered}
-use Rattle.version.specs.Version.{fields, countsBefore, countsStrictlyBefore}
+use Rattle.version.specs.Version.{fields, countIn}
 use Rattle.version.proofs.Laws.{before-fields, strictly-fields}
 
 module _ (R : ℕ → ℕ → Bool) (n : ℕ) where
@@ -35,7 +36,7 @@ module _ (R : ℕ → ℕ → Bool) (n : ℕ) where
 module _ (list new x : List ℕ) (i : ℕ) (r : Bool) (ex : x ≡ fields (recordAt list i) .counts) where
   pub compared :
       (j : ℕ) (y : List ℕ) → j < records list → y ≡ fields (recordAt list j) .counts →
-      r ≡ (countsBefore x y || countsBefore y x) → ordered list new i j ≡ r
+      r ≡ (countsBefore (countIn x) (countIn y) || countsBefore (countIn y) (countIn x)) → ordered list new i j ≡ r
   unfolding ordered
   compared j y h ey e =
       rw (
@@ -48,6 +49,6 @@ module _ (list new x : List ℕ) (i : ℕ) (r : Bool) (ex : x ≡ fields (record
       )
 
   pub compared-new :
-      (j : ℕ) (y : List ℕ) → records list ≤ j → y ≡ fields new .counts → r ≡ countsStrictlyBefore x y → ordered list new i j ≡ r
+      (j : ℕ) (y : List ℕ) → records list ≤ j → y ≡ fields new .counts → r ≡ countsStrictlyBefore (countIn x) (countIn y) → ordered list new i j ≡ r
   unfolding ordered
   compared-new j y h ey e = rw (le-ltb j (records list) h, e, ex, ey, strictly-fields (recordAt list i) new)

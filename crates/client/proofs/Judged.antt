@@ -1,11 +1,10 @@
 -- The third stage's tests, tried in order, and the next structure by its counts.
 use Prim.Native.Nat.{ℕ, _+_, _<_}
-use mathlib.Core.Bool.{Bool, true, false, cond}
+use mathlib.Core.Bool.{Bool, true, false}
 use mathlib.Core.List.{List, [], _∷_}
 use mathlib.Core.Path.{_≡_, refl, sym, _∙_}
 use native.Mathlib.Omega.{arith}
 use borrow.Author.Tests.{eq-eqb, ne-eqb}
-use lib.Dec.{eqb}
 use lib.ListN.{length, getD}
 use lib.Seq.{ext-getD}
 use Rattle.layout.specs.Bytes.{values}
@@ -13,11 +12,10 @@ use Rattle.layout.proofs.Values.{length-values, getD-values}
 use Rattle.refusal.specs.Answer.{Answer, refused}
 use Rattle.refusal.specs.Order.{inOrder, tried}
 use Rattle.protocol.specs.Version.{count, counts, structure}
-use Rattle.protocol.specs.List.{entry}
-use Rattle.protocol.specs.Check.{lastCount, next, current, orderSteps}
+use Rattle.protocol.specs.Check.{lastCount, nextCount, next, current, pairStep, orderSteps}
 use Rattle.protocol.proofs.Version.{count-structure}
 use Rattle.version.specs.Version.{fields}
-use Rattle.client.specs.Stages.{nextCounts, pairStep}
+use Rattle.client.specs.Stages.{nextCounts}
 
 module _ (u : ℕ) (mem list handle : List ℕ) where
   abbrev due : Answer Unit
@@ -39,7 +37,7 @@ module _ (u : ℕ) (mem list handle : List ℕ) where
 
   -- The counts in the written structure.
   abbrev f : ℕ → ℕ
-  f v = cond (eqb v u) (count mem u + 1) (count (entry list v) v)
+  f = nextCount u mem list
 
   pub counts-next : length handle ≡ 32 → nextCounts u mem list ≡ fields (next u mem list handle) .counts
   unfolding nextCounts next fields

@@ -10,10 +10,8 @@ use lib.ListN.{length, getD, set, take, drop}
 use lib.Seq.{getD-take, getD-drop, getD-set-same, getD-set-other}
 use borrow.Author.Count.{below-more}
 use Rattle.search.specs.Search.{find, same}
-use Rattle.layout.specs.Bytes.{four}
-use Rattle.layout.proofs.Bytes.{four-part}
 use Rattle.layout.proofs.Parts.{part-past}
-use Rattle.protocol.specs.Version.{owner, count, wellFormed}
+use Rattle.protocol.specs.Version.{owner, wellFormed}
 use Rattle.protocol.specs.List.{records, recordAt, entry, wellPlaced}
 use Rattle.protocol.specs.Check.{current}
 use Rattle.version.specs.Version.{fields}
@@ -26,11 +24,6 @@ module _ (list : List ℕ) (i : ℕ) where
 
   pub owner-below : ((m : ℕ) → m < records list → owner (recordAt list m) < 16) → i < records list → getD list (98 * i + 1) 0 < 16
   owner-below h l = rw owner-at at (h i l)
-
-  pub count-at : (v : ℕ) → v < 16 → four list (98 * i + 34 + 4 * v) ≡ count (recordAt list i) v
-  count-at v h =
-      let e : 98 * i + 34 + 4 * v ≡ 98 * i + (34 + 4 * v) = omega arith in
-      rw e (sym (four-part list (98 * i) 98 (34 + 4 * v) (omega arith)))
 
   -- The part of the list that the code lends.
   abbrev pub lentAt : List ℕ

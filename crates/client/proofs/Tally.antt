@@ -1,7 +1,7 @@
 -- The next structure's counts, filled in from the last record to the first: what stands for user v is the own count in v's first record
 -- among those passed.
 use Prim.Native.Nat.{ℕ, suc, _+_, _*_, _-_, _<_}
-use mathlib.Core.Bool.{Bool, cond}
+use mathlib.Core.Bool.{Bool}
 use mathlib.Core.List.{List, []}
 use mathlib.Core.Logic.{⊎-elim}
 use mathlib.Core.Path.{_≡_, sym, ap, _∙_}
@@ -19,6 +19,7 @@ use Rattle.layout.proofs.Parts.{part-past}
 use Rattle.layout.proofs.Values.{length-values, getD-values}
 use Rattle.protocol.specs.Version.{owner, count}
 use Rattle.protocol.specs.List.{records, recordAt, entry}
+use Rattle.protocol.specs.Check.{nextCount}
 use Rattle.client.specs.Stages.{nextCounts}
 
 module _ (list : List ℕ) where
@@ -59,7 +60,7 @@ module _ (list : List ℕ) where
       ext-getD 0 (set cs u x) _ (length-set cs u x ∙ (l ∙ sym (length-values f 0 16))) (λ v h. here v (omega (arith, length-set cs u x)) ∙ sym (at v (omega (arith, length-set cs u x))))
     where
       f : ℕ → ℕ
-      f v = cond (eqb v u) (count mem u + 1) (count (recordAt list (find (owns v) 0 (records list))) v)
+      f = nextCount u mem list
 
       at : (v : ℕ) → v < 16 → getD (values f 0 16) v 0 ≡ f v
       at v h = let s : 0 + v ≡ v = omega arith in getD-values f 0 16 v h ∙ ap f s

@@ -1,6 +1,5 @@
 // The third stage: refusals 5, 6 and 7, by which the list goes on from the current structure.
 ghost use mathlib.Core.Path.{_≡_};
-ghost use mathlib.Core.Bool.{_||_};
 ghost use mathlib.Core.List.{List, [], _∷_};
 ghost use Prim.Native.Nat.{ℕ, _+_, _*_, _≤_, _<_};
 ghost use lib.Dec.{eqb};
@@ -11,9 +10,9 @@ ghost use Rattle.refusal.specs.Order.{tried};
 ghost use Rattle.refusal.specs.Refusal.{said};
 ghost use Rattle.protocol.specs.Version.{owner};
 ghost use Rattle.protocol.specs.List.{records, recordAt};
-ghost use Rattle.protocol.specs.Check.{orderSteps, current as currentOf, next as nextOf};
-ghost use Rattle.version.specs.Version.{fields, countsBefore, countsStrictlyBefore};
-ghost use Rattle.client.specs.Stages.{nextCounts, pairStep, none};
+ghost use Rattle.protocol.specs.Check.{orderSteps, pairStep, current as currentOf, next as nextOf};
+ghost use Rattle.version.specs.Version.{fields};
+ghost use Rattle.client.specs.Stages.{nextCounts, none};
 use refusal::Check;
 use refusal::Refusal;
 use version::Version;
@@ -45,23 +44,6 @@ fn current(user: u8, memory: &[u8], list: &[u8]) -> bool
     }
     let record = &list[98 * i..98 * i + 98];
     search::equal(record, memory)
-}
-
-// Whether one of x and y is at or before the other.
-fn comparable(x: [u32; 16], y: [u32; 16]) -> bool
-    ensures { λ r. ⌜ r ≡ (countsBefore x y || countsBefore y x) ⌝ }
-{
-    if version::at_or_before(x, y) {
-        return true;
-    }
-    version::at_or_before(y, x)
-}
-
-// Whether x is strictly before the next structure.
-fn before_next(x: [u32; 16], next: [u32; 16]) -> bool
-    ensures { λ r. ⌜ r ≡ countsStrictlyBefore x next ⌝ }
-{
-    version::strictly_before(x, next)
 }
 
 // The list as an array of structures.
@@ -101,12 +83,12 @@ fn pairs(list: &[u8], next: [u32; 16]) -> Check
         while j < n {
             let y = structures[j];
             let high = y.counts;
-            if !comparable(low, high) {
+            if !version::comparable(low, high) {
                 break 'pairs;
             }
             j += 1;
         }
-        if !before_next(low, next) {
+        if !version::strictly_before(low, next) {
             break 'pairs;
         }
         i += 1;

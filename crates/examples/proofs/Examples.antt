@@ -5,7 +5,7 @@ use Rattle.search.specs.Search.{find, every, same}
 use Rattle.search.specs.Pairs.{everyPair, firstLow, firstHigh}
 use Rattle.layout.specs.Bytes.{four, bytes4}
 use Rattle.itable.specs.Table.{blocks}
-use Rattle.protocol.specs.Version.{counts, structure, wellFormed, atOrBefore, strictlyBefore}
+use Rattle.protocol.specs.Version.{counts, structure, wellFormed, countsBefore, countsStrictlyBefore}
 use Rattle.protocol.specs.List.{entry, wellPlaced}
 use Rattle.protocol.specs.Check.{next, remembers, current, ordered, sizeSteps, formSteps, orderSteps, check}
 use Rattle.protocol.specs.ForkedRun.{counting}
@@ -13,7 +13,7 @@ use Rattle.examples.specs.Examples.{examples, ExamplesHold}
 
 pub examples-hold : ExamplesHold
 unfolding
-    examples counting counts structure wellFormed atOrBefore strictlyBefore entry wellPlaced next remembers current ordered
+    examples counting counts structure wellFormed countsBefore countsStrictlyBefore entry wellPlaced next remembers current ordered
     sizeSteps formSteps orderSteps check four bytes4 find every same everyPair firstLow firstHigh inOrder blocks
 examples-hold =
     (refl, (refl, (refl, (refl, (refl, (refl, (refl, (refl, (refl, (refl, (refl, (refl, (refl, (refl, (refl, (refl, (refl, (refl, (refl, (refl, (refl, (refl, tt))))))))))))))))))))))

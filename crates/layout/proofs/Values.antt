@@ -1,11 +1,11 @@
 -- Laws of the values of a function at places in a row, and of a list that is filled with them from the front.
-use Prim.Native.Nat.{ℕ, zero, suc, _+_, _<_}
+use Prim.Native.Nat.{ℕ, zero, suc, _+_, _≤_, _<_}
 use mathlib.Core.List.{List, [], _∷_, _++_}
-use mathlib.Core.Path.{_≡_, refl, sym, ap, _∙_}
+use mathlib.Core.Path.{_≡_, refl, sym, ap, ap₂, _∙_}
 use native.Mathlib.Numerals.{add-one}
 use native.Mathlib.Omega.{arith}
-use lib.ListN.{length, getD, take, set}
-use lib.Seq.{take-suc-set}
+use lib.ListN.{length, getD, take, drop, set, length-drop}
+use lib.Seq.{take-suc-set, length-take-le, getD-take, getD-drop, ext-getD}
 use Rattle.layout.specs.Bytes.{values}
 
 pub length-values : (f : ℕ → ℕ) (i k : ℕ) → length (values f i k) ≡ k
@@ -19,6 +19,23 @@ getD-values f i zero j h = absurd (omega arith)
 getD-values f i (suc k) zero h = let e : i ≡ i + 0 = omega arith in ap f e
 getD-values f i (suc k) (suc j) h =
     let e : suc i + j ≡ i + suc j = omega arith in getD-values f (suc i) k j (omega arith) ∙ ap f e
+
+-- Functions that agree at each place have the same values.
+pub values-cong : (f g : ℕ → ℕ) (i k : ℕ) → ((j : ℕ) → i ≤ j → j < i + k → f j ≡ g j) → values f i k ≡ values g i k
+unfolding values
+values-cong f g i zero h = refl
+values-cong f g i (suc k) h =
+    ap₂ _∷_ (h i (omega arith) (omega arith)) (values-cong f g (suc i) k (λ j a b. h j (omega arith) (omega arith)))
+
+-- The n bytes from a on, one by one.
+pub values-part : (b : List ℕ) (a n : ℕ) → a + n ≤ length b → values (λ i. getD b (a + i) 0) 0 n ≡ take n (drop a b)
+values-part b a n h =
+    let m : length (take n (drop a b)) ≡ n = length-take-le n (drop a b) (simp length-drop (omega arith)) in
+    ext-getD 0 _ _ (length-values _ 0 n ∙ sym m)
+    (λ i l.
+    let k : i < n = omega (arith, length-values (λ i. getD b (a + i) 0) 0 n) in
+    let z : 0 + i ≡ i = omega arith in
+    getD-values _ 0 n i k ∙ (ap (λ j. getD b (a + j) 0) z ∙ (sym (getD-drop a b i 0) ∙ sym (getD-take n (drop a b) i 0 k))))
 
 values-last : (f : ℕ → ℕ) (i k : ℕ) → values f i (suc k) ≡ values f i k ++ (f (i + k) ∷ [])
 unfolding values

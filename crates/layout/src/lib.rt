@@ -1,18 +1,25 @@
 // The layouts' numbers, read from bytes at every place, with zeros past the end, and as bytes. What
 // these numbers and the parts of a byte string are, and the laws of both, stands in specs/ and proofs/.
 ghost use mathlib.Core.Path.{_≡_};
-ghost use Prim.Native.Nat.{_+_, _*_, _≤_};
-ghost use lib.ListN.{getD};
+ghost use Prim.Native.Nat.{_+_, _*_, _-_, _≤_};
+ghost use lib.ListN.{length, getD};
 ghost use Rattle.layout.specs.Bytes.{four, eight, bytes4, bytes8};
+
+// How many bytes there are from a place on.
+fn rest(b: &[u8], at: usize) -> usize
+    ensures { λ r. ⌜ r ≡ length (now (b .entry)) - at ⌝ }
+{
+    if b.len() <= at {
+        return 0;
+    }
+    b.len() - at
+}
 
 // The byte k places behind another; 0 past the end.
 fn behind(b: &[u8], at: usize, k: usize) -> u8
     ensures { λ r. ⌜ r ≡ getD (now (b .entry)) (at + k) 0 ⌝ }
 {
-    if b.len() <= at {
-        return 0;
-    }
-    if b.len() - at <= k {
+    if rest(b, at) <= k {
         return 0;
     }
     b[at + k]
@@ -32,11 +39,16 @@ fn join(a: u8, b: u8, c: u8, d: u8) -> u32
     (a as u32) * 16777216 + (b as u32) * 65536 + (c as u32) * 256 + (d as u32)
 }
 
-// The number in the four bytes k places behind another.
+// The number in the four bytes k places behind another. Where all four are there, one test is
+// enough for all, and the compiler makes one load of them.
 fn quad(b: &[u8], at: usize, k: usize) -> u32
     requires { ⌜ k ≤ 4 ⌝ }
     ensures { λ r. ⌜ r ≡ four (now (b .entry)) (at + k) ⌝ }
 {
+    if k + 4 <= rest(b, at) {
+        let i = at + k;
+        return join(b[i], b[i + 1], b[i + 2], b[i + 3]);
+    }
     join(
         behind(b, at, k),
         behind(b, at, k + 1),

@@ -13,7 +13,7 @@ use Rattle.search.specs.Search.{every, find}
 use Rattle.search.proofs.Bool.{bool-cases, both-true, either-true, left-true, right-true}
 use Rattle.search.proofs.Search.{every-at, every-intro, first-failure, find-at, same-true, same-refl}
 use Rattle.layout.proofs.Parts.{part-length}
-use Rattle.protocol.specs.Version.{size, kind, owner, count, own, wellFormed, atOrBefore, strictlyBefore}
+use Rattle.protocol.specs.Version.{size, kind, owner, count, own, wellFormed, countsStrictlyBefore, atOrBefore, strictlyBefore}
 use Rattle.protocol.specs.List.{records, recordAt, entry, wellPlaced}
 use Rattle.protocol.specs.Check.{remembers, current, ordered}
 use Rattle.protocol.specs.Meaning.{WellFormed, StrictlyBefore, Remembered, WellPlaced, Current, Ordered}
@@ -51,7 +51,7 @@ well-formed N x =
     )
 
 pub strictly-means : (x y : List ℕ) → (strictlyBefore x y ≡ true) ↔ StrictlyBefore x y
-unfolding strictlyBefore
+unfolding countsStrictlyBefore
 strictly-means x y =
     let same : Bool = every (λ v. eqb (count x v) (count y v)) 0 16 in (
       λ e.

@@ -9,7 +9,7 @@ use Rattle.refusal.specs.Order.{inOrder}
 use Rattle.search.specs.Search.{find, every, same}
 use Rattle.search.specs.Pairs.{everyPair, firstLow, firstHigh}
 use Rattle.layout.specs.Bytes.{four, bytes4}
-use Rattle.protocol.specs.Version.{owner, counts, structure, wellFormed, atOrBefore, strictlyBefore}
+use Rattle.protocol.specs.Version.{owner, counts, structure, wellFormed, countsBefore, countsStrictlyBefore}
 use Rattle.protocol.specs.List.{recordAt, entry, wellPlaced}
 use Rattle.protocol.specs.Check.{next, remembers, current, ordered, sizeSteps, formSteps, orderSteps, check}
 use Rattle.protocol.specs.History.{Call, memory, Signed}
@@ -30,7 +30,7 @@ Covered earlier c i = Unit {0} → Signed 2 earlier (owner (recordAt (c .list) i
 
 pub forked-run : ForkedRun
 unfolding
-    p1 p2 p3 p4 p5 callOn counting counts structure wellFormed atOrBefore strictlyBefore entry wellPlaced next remembers current ordered
+    p1 p2 p3 p4 p5 callOn counting counts structure wellFormed countsBefore countsStrictlyBefore entry wellPlaced next remembers current ordered
     sizeSteps formSteps orderSteps check memory four bytes4 find every same everyPair firstLow firstHigh inOrder
 forked-run =
     record {

@@ -1,34 +1,29 @@
 -- What the client's new structure is: it was laid out from its counts, which read back, and in a list of ascending owners a user's entry is
 -- its only record.
 use Prim.Native.Nat.{ℕ, _+_, _<_}
-use mathlib.Core.Bool.{cond}
 use mathlib.Core.List.{List}
 use mathlib.Core.Logic.{⊎-elim}
 use mathlib.Core.Path.{_≡_, refl, _∙_}
 use native.Mathlib.Omega.{arith}
-use lib.Dec.{eqb}
 use lib.ListN.{length}
 use lib.Seq.{take-at}
 use borrow.Author.Tests.{eq-eqb, ne-eqb}
 use Rattle.protocol.specs.Version.{owner, count, counts, structure}
 use Rattle.protocol.specs.List.{recordAt, entry}
-use Rattle.protocol.specs.Check.{next}
+use Rattle.protocol.specs.Check.{nextCount, next}
 use Rattle.protocol.specs.Meaning.{NewMeans}
 use Rattle.protocol.proofs.Version.{length-structure, count-structure, owner-structure}
 use Rattle.protocol.proofs.List.{none-counted, entry-cases}
 use Rattle.protocol.proofs.Conditions.{entry-at}
 
-abbrev countOf : ℕ → List ℕ → List ℕ → ℕ → ℕ
-countOf u mem list v = cond (eqb v u) (count mem u + 1) (count (entry list v) v)
-
 module _ (u : ℕ) (mem list handle : List ℕ) (h : length handle ≡ 32) where
   pub next-own : u < 16 → count (next u mem list handle) u ≡ count mem u + 1
   unfolding next
-  next-own l = count-structure u handle (countOf u mem list) h u l ∙ rw (eq-eqb u u refl)
+  next-own l = count-structure u handle (nextCount u mem list) h u l ∙ rw (eq-eqb u u refl)
 
   pub next-other : (v : ℕ) → v < 16 → (v ≡ u → ⊥) → count (next u mem list handle) v ≡ count (entry list v) v
   unfolding next
-  next-other v l n = count-structure u handle (countOf u mem list) h v l ∙ rw (ne-eqb v u n)
+  next-other v l n = count-structure u handle (nextCount u mem list) h v l ∙ rw (ne-eqb v u n)
 
 pub new-means : NewMeans
 unfolding next structure
@@ -36,7 +31,7 @@ new-means N mem c w =
     let U = w .0 .0 .0 in
     let S = w .0 .0 .1 in
     let h = S .handle-long in
-    let f : ℕ → ℕ = countOf (c .user) mem (c .list) in
+    let f : ℕ → ℕ = nextCount (c .user) mem (c .list) in
     let own-count = next-own (c .user) mem (c .list) (c .handle) h (omega (arith, U .1, U .2)) in
     record {
       long = length-structure (c .user) (c .handle) f h;

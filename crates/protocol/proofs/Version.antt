@@ -12,7 +12,7 @@ use Rattle.layout.proofs.Bytes.{four-bytes4, length-bytes4, four-behind}
 use Rattle.search.specs.Search.{every}
 use Rattle.search.proofs.Bool.{both-true}
 use Rattle.search.proofs.Search.{every-intro, every-at, every-fails}
-use Rattle.protocol.specs.Version.{size, owner, count, counts, structure, atOrBefore, strictlyBefore}
+use Rattle.protocol.specs.Version.{size, owner, count, counts, structure, countsBefore, countsStrictlyBefore, atOrBefore, strictlyBefore}
 
 length-counts : (f : ℕ → ℕ) (v k : ℕ) → length (counts f v k) ≡ 4 * k
 unfolding counts
@@ -47,19 +47,19 @@ module _ (u : ℕ) (handle : List ℕ) (f : ℕ → ℕ) (h : length handle ≡ 
 
 module _ (x y : List ℕ) where
   pub before-at : atOrBefore x y ≡ true → (v : ℕ) → v < 16 → count x v ≤ count y v
-  unfolding atOrBefore
+  unfolding countsBefore
   before-at e v l = leb-true _ _ (every-at (λ w. leb (count x w) (count y w)) 0 16 e v (omega arith) l)
 
   pub before-intro : ((v : ℕ) → v < 16 → count x v ≤ count y v) → atOrBefore x y ≡ true
-  unfolding atOrBefore
+  unfolding countsBefore
   before-intro f = every-intro (λ w. leb (count x w) (count y w)) 0 16 (λ v a b. le-leb _ _ (f v b))
 
   pub strictly-before : strictlyBefore x y ≡ true → atOrBefore x y ≡ true
-  unfolding strictlyBefore
+  unfolding countsStrictlyBefore
   strictly-before e = both-true (atOrBefore x y) (not (every (λ v. eqb (count x v) (count y v)) 0 16)) e .0
 
   -- Strictly before: at or before, and less at some user.
   pub strictly-intro : atOrBefore x y ≡ true → (v : ℕ) → v < 16 → count x v < count y v → strictlyBefore x y ≡ true
-  unfolding strictlyBefore
+  unfolding countsStrictlyBefore
   strictly-intro e v l h =
       rw (e, every-fails (λ w. eqb (count x w) (count y w)) 0 16 v (omega arith) l (ne-eqb (count x v) (count y v) (λ q. omega arith)))

@@ -17,9 +17,11 @@ lastCount = 4294967295
 
 -- "The new structure has owner u and that handle; for each other user its count is that user's own count in its list record, or 0; for u
 -- it is the remembered own count plus 1, or 1." `mem` is the remembered structure, or no bytes.
+abbrev pub nextCount : ℕ → List ℕ → List ℕ → ℕ → ℕ
+nextCount u mem list v = cond (eqb v u) (count mem u + 1) (count (entry list v) v)
+
 unfoldable pub next : ℕ → List ℕ → List ℕ → List ℕ → List ℕ
-next u mem list handle =
-    structure u handle (λ v. cond (eqb v u) (count mem u + 1) (count (entry list v) v))
+next u mem list handle = structure u handle (nextCount u mem list)
 
 -- The remembered structure is none, or well formed and u's own.
 unfoldable pub remembers : ℕ → ℕ → List ℕ → Bool
@@ -36,6 +38,12 @@ ordered list new i j =
     cond (ltb j (records list))
     (atOrBefore (recordAt list i) (recordAt list j) || atOrBefore (recordAt list j) (recordAt list i))
     (strictlyBefore (recordAt list i) new)
+
+-- Refusal 7, for a pair that is not so: "the pair, least i, then least j".
+abbrev pub pairStep : List ℕ → List ℕ → Step
+pairStep list new =
+    unless (everyPair (ordered list new) (records list)) 7 (firstLow (ordered list new) (records list))
+    (firstHigh (ordered list new) (records list))
 
 -- "Order: 1, 2, 3 for the remembered structure, 3 for the list, 4, 5, 6, 7. One refusal is tried over all records before the next is tried."
 -- `room` is the length of the answer's buffer.
@@ -58,10 +66,7 @@ formSteps N u mem list marks =
 unfoldable pub orderSteps : ℕ → List ℕ → List ℕ → List ℕ → List Step
 orderSteps u mem list new =
     unless (current u mem list) 5 0 0 ∷
-    unless (not (eqb (count mem u) lastCount)) 6 0 0 ∷
-    unless (everyPair (ordered list new) (records list)) 7 (firstLow (ordered list new) (records list))
-    (firstHigh (ordered list new) (records list)) ∷
-    []
+    unless (not (eqb (count mem u) lastCount)) 6 0 0 ∷ pairStep list new ∷ []
 
 unfoldable pub check : ℕ → ℕ → List ℕ → List ℕ → List ℕ → List ℕ → ℕ → Answer (List ℕ)
 check N u mem list marks handle room =

@@ -39,10 +39,16 @@ unfoldable pub wellFormed : ℕ → List ℕ → Bool
 wellFormed N x =
     eqb (kind x) 1 && (ltb (owner x) N && (not (eqb (own x) 0) && every (λ v. eqb (count x v) 0) N (16 - N)))
 
--- "Structure x is at or before y if each of the sixteen counts of x is at most that of y."
-unfoldable pub atOrBefore : List ℕ → List ℕ → Bool
-atOrBefore x y = every (λ v. leb (count x v) (count y v)) 0 16
+-- "Structure x is at or before y if each of the sixteen counts of x is at most that of y. It is strictly before y if also some count
+-- differs." First of two structures' counts, f of x and g of y, then of their bytes.
+unfoldable pub countsBefore : (ℕ → ℕ) → (ℕ → ℕ) → Bool
+countsBefore f g = every (λ v. leb (f v) (g v)) 0 16
 
--- "It is strictly before y if also some count differs."
-unfoldable pub strictlyBefore : List ℕ → List ℕ → Bool
-strictlyBefore x y = atOrBefore x y && not (every (λ v. eqb (count x v) (count y v)) 0 16)
+unfoldable pub countsStrictlyBefore : (ℕ → ℕ) → (ℕ → ℕ) → Bool
+countsStrictlyBefore f g = countsBefore f g && not (every (λ v. eqb (f v) (g v)) 0 16)
+
+abbrev pub atOrBefore : List ℕ → List ℕ → Bool
+atOrBefore x y = countsBefore (count x) (count y)
+
+abbrev pub strictlyBefore : List ℕ → List ℕ → Bool
+strictlyBefore x y = countsStrictlyBefore (count x) (count y)

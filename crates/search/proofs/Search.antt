@@ -1,6 +1,6 @@
 -- Laws of the searches: a search is fixed by what it finds, and a test over all places by each of them.
 use Prim.Native.Nat.{ℕ, zero, suc, _+_, _≤_, _<_}
-use mathlib.Core.Bool.{Bool, true, false, not}
+use mathlib.Core.Bool.{Bool, true, false, not, _&&_}
 use mathlib.Core.List.{List, [], _∷_}
 use mathlib.Core.Logic.{⊎-elim}
 use mathlib.Core.Path.{_≡_, refl, sym, subst, ap, ap₂, _∙_}
@@ -8,6 +8,8 @@ use native.Mathlib.Decide.{decLt}
 use native.Mathlib.Nat.{eq-or-lt-of-le}
 use native.Mathlib.Omega.{arith}
 use lib.Dec.{eqb}
+use lib.ListN.{length, getD}
+use lib.Seq.{ext-getD}
 use borrow.Author.Tests.{eqb-true, eqb-false, eq-eqb, ne-eqb, not-true, not-false}
 use Rattle.search.specs.Search.{find, every, same}
 use Rattle.search.proofs.Bool.{not-both, bool-cases}
@@ -120,6 +122,33 @@ pub every-cong : (p q : ℕ → Bool) (i k : ℕ) → ((j : ℕ) → i ≤ j →
 unfolding every
 every-cong p q i k e = ap (λ r. eqb r (i + k)) (find-cong (λ v. not (p v)) (λ v. not (q v)) i k (λ j h l. ap not (e j h l)))
 
+more-by : (p : ℕ → Bool) (k : ℕ) (a b : Bool) → every p 0 k ≡ a → p k ≡ b → every p 0 (k + 1) ≡ (a && b)
+more-by p k true true ea eb =
+    every-intro p 0 (k + 1)
+    (λ j h l. ⊎-elim (λ e. ap p e ∙ eb) (λ m. every-at p 0 k ea j h (omega arith)) (eq-or-lt-of-le {n = j} {m = k} (omega arith)))
+more-by p k true false ea eb = every-fails p 0 (k + 1) k (omega arith) (omega arith) eb
+more-by p k false b ea eb =
+    let f = first-failure p 0 k ea in every-fails p 0 (k + 1) _ (omega arith) (omega (arith, f .0)) (f .1)
+
+-- One place more.
+pub every-more : (p : ℕ → Bool) (k : ℕ) → every p 0 (k + 1) ≡ (every p 0 k && p k)
+every-more p k = more-by p k _ _ refl refl
+
+both-by : (p q : ℕ → Bool) (i k : ℕ) (a b : Bool) → every p i k ≡ a → every q i k ≡ b → every (λ v. p v && q v) i k ≡ (a && b)
+both-by p q i k true true ea eb =
+    every-intro (λ v. p v && q v) i k (λ j h l. rw (every-at p i k ea j h l, every-at q i k eb j h l))
+both-by p q i k true false ea eb =
+    let f = first-failure q i k eb in
+    let h = found (λ v. not (q v)) i k .from in
+    every-fails (λ v. p v && q v) i k _ h (f .0) (rw (every-at p i k ea _ h (f .0), f .1))
+both-by p q i k false b ea eb =
+    let f = first-failure p i k ea in
+    every-fails (λ v. p v && q v) i k _ (found (λ v. not (p v)) i k .from) (f .0) (rw (f .1))
+
+-- Two tests at all places are both of them at each.
+pub every-both : (p q : ℕ → Bool) (i k : ℕ) → every (λ v. p v && q v) i k ≡ (every p i k && every q i k)
+every-both p q i k = both-by p q i k _ _ refl refl
+
 pub same-refl : (xs : List ℕ) → same xs xs ≡ true
 unfolding same
 same-refl [] = refl
@@ -141,6 +170,22 @@ same-false xs ys h e = not-both (same-refl xs) (rw (← e) at h)
 
 pub differ-same : (xs ys : List ℕ) → (xs ≡ ys → ⊥) → same xs ys ≡ false
 differ-same xs ys n = ⊎-elim (λ t. absurd (n (same-true xs ys t))) (λ f. f) (bool-cases (same xs ys))
+
+same-by :
+    (xs ys : List ℕ) (b : Bool) → length xs ≡ length ys → every (λ i. eqb (getD xs i 0) (getD ys i 0)) 0 (length xs) ≡ b →
+    b ≡ same xs ys
+same-by xs ys true l e =
+    let q : xs ≡ ys = ext-getD 0 xs ys l (λ i h. eqb-true (getD xs i 0) (getD ys i 0) (every-at (λ i. eqb (getD xs i 0) (getD ys i 0)) 0 (length xs) e i (omega arith) (omega arith))) in
+    sym (ap (same xs) (sym q) ∙ same-refl xs)
+same-by xs ys false l e =
+    let f = first-failure (λ i. eqb (getD xs i 0) (getD ys i 0)) 0 (length xs) e in
+    let i : ℕ = find (λ i. not (eqb (getD xs i 0) (getD ys i 0))) 0 (length xs) in
+    sym (differ-same xs ys (λ q. eqb-false (getD xs i 0) (getD ys i 0) (f .1) (ap (λ zs. getD zs i 0) q)))
+
+-- Strings of one length are equal if each byte is.
+pub same-every :
+    (xs ys : List ℕ) → length xs ≡ length ys → every (λ i. eqb (getD xs i 0) (getD ys i 0)) 0 (length xs) ≡ same xs ys
+same-every xs ys l = same-by xs ys _ l refl
 
 -- What holds of each place from a up to i, and of i, holds up to i + 1.
 pub span-more : {P : ℕ → Type 0} (a i : ℕ) → ((m : ℕ) → a ≤ m → m < i → P m) → P i → (m : ℕ) → a ≤ m → m < i + 1 → P m

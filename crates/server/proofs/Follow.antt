@@ -5,13 +5,13 @@ use mathlib.Core.List.{List}
 use mathlib.Core.Logic.{⊎-elim}
 use mathlib.Core.Path.{_≡_}
 use lib.Dec.{eqb}
-use lib.ListN.{length, getD}
+use lib.ListN.{length}
 use borrow.Author.Tests.{eqb-true, eqb-false}
 use Rattle.search.proofs.Bool.{bool-cases}
-use Rattle.protocol.specs.Version.{owner, count, strictlyBefore}
+use Rattle.protocol.specs.Version.{owner, count, countsStrictlyBefore, strictlyBefore}
 use Rattle.protocol.specs.Server.{slot, held, follows}
 use Rattle.protocol.specs.declared.Server.{Server}
-use Rattle.version.specs.Version.{fields, countsStrictlyBefore}
+use Rattle.version.specs.Version.{fields, countIn}
 use Rattle.version.proofs.Laws.{count-fields, strictly-fields}
 use Rattle.protocol.proofs.Held.{held-own, held-slot}
 use Rattle.server.proofs.Slots.{held-none, length-held}
@@ -20,7 +20,7 @@ module _ (s : Server) (x : List ℕ) (v : ℕ) (whole : length (s .records) ≡ 
   -- Nothing is held, or it is strictly before.
   held-before :
       (eqb (length (held s v)) 0 || strictlyBefore (held s v) x) ≡
-      (eqb (count (slot s v) v) 0 || countsStrictlyBefore (fields (slot s v) .counts) (fields x .counts))
+      (eqb (count (slot s v) v) 0 || countsStrictlyBefore (countIn (fields (slot s v) .counts)) (countIn (fields x .counts)))
   held-before =
       ⊎-elim
       (λ t. rw (held-none s v (eqb-true _ _ t), t))
@@ -29,7 +29,7 @@ module _ (s : Server) (x : List ℕ) (v : ℕ) (whole : length (s .records) ≡ 
 
   pub follows-fields :
       follows s x v ≡
-      ((eqb (getD (fields (slot s v) .counts) v 0) 0 || countsStrictlyBefore (fields (slot s v) .counts) (fields x .counts)) &&
-      (eqb v (owner x) || eqb (getD (fields x .counts) v 0) (getD (fields (slot s v) .counts) v 0)))
+      ((eqb (count (slot s v) v) 0 || countsStrictlyBefore (countIn (fields (slot s v) .counts)) (countIn (fields x .counts))) &&
+      (eqb v (owner x) || eqb (countIn (fields x .counts) v) (count (slot s v) v)))
   unfolding follows
-  follows-fields = rw (held-before, held-own s v, count-fields x v user, count-fields (slot s v) v user)
+  follows-fields = rw (held-before, held-own s v, count-fields x v user)

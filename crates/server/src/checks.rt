@@ -5,15 +5,16 @@ use refusal::Refusal;
 ghost use mathlib.Core.Bool.{not, _||_};
 ghost use mathlib.Core.Path.{_≡_};
 ghost use mathlib.Core.List.{List, [], _∷_};
-ghost use Prim.Native.Nat.{ℕ, _+_, _*_, _<_, _≤_};
+ghost use Prim.Native.Nat.{ℕ, _+_, _<_};
 ghost use lib.Dec.{leb, eqb};
 ghost use lib.ListN.{length};
 ghost use Rattle.search.specs.Search.{find};
 ghost use Rattle.refusal.specs.Order.{unless, tried};
 ghost use Rattle.refusal.specs.Refusal.{said};
-ghost use Rattle.protocol.specs.Version.{owner as ownerOf};
+ghost use Rattle.layout.specs.Bytes.{part};
+ghost use Rattle.protocol.specs.Version.{size, owner as ownerOf, countsStrictlyBefore};
 ghost use Rattle.protocol.specs.Server.{follows as followsOf, commitSteps};
-ghost use Rattle.version.specs.Version.{fields, countsStrictlyBefore};
+ghost use Rattle.version.specs.Version.{fields, countIn};
 
 // The refusal of a number of users.
 pub(crate) fn make_check(users: u8) -> Check
@@ -28,13 +29,16 @@ pub(crate) fn make_check(users: u8) -> Check
     Check::Passed
 }
 
-// Whether nothing is held, or what is held is strictly before the new structure.
-fn in_order(own: u32, held: [u32; 16], new: [u32; 16]) -> bool
-    ensures { λ r. ⌜ r ≡ (eqb own 0 || countsStrictlyBefore held new) ⌝ }
+// Whether nothing is held of user v, whose own count this is, or what is held is strictly before the
+// new structure.
+fn in_order(own: u32, records: &[u8], v: usize, new: [u32; 16]) -> bool
+    requires { ⌜ (length (now records) ≡ 1568) × (v < 16) ⌝ }
+    ensures { λ r. ⌜ r ≡ (eqb own 0 || countsStrictlyBefore (countIn (fields (part size (now (records .entry)) v) .counts)) (countIn new)) ⌝ }
 {
     if own == 0 {
         return true;
     }
+    let held = held::counts(records, v);
     version::strictly_before(held, new)
 }
 
@@ -43,14 +47,14 @@ fn follows(records: &[u8], owner: usize, new: [u32; 16], v: usize) -> bool
     requires { ⌜ (length (now records) ≡ 1568) × (v < 16) ⌝ }
     ensures { λ r. ⌜ ((users : ℕ) (x : List ℕ) → owner ≡ ownerOf x → new ≡ fields x .counts → r ≡ followsOf (record { users = users; records = now (records .entry) }) x v) ⌝ }
 {
-    let counts = held::counts(records, v);
-    if !in_order(counts[v], counts, new) {
+    let own = held::own_count(records, v);
+    if !in_order(own, records, v, new) {
         return false;
     }
     if v == owner {
         return true;
     }
-    new[v] == counts[v]
+    new[v] == own
 }
 
 // The lowest user at whom test 7 fails; 16 if it fails at none.

@@ -12,8 +12,7 @@ pub(crate) fn counts(records: &[u8], v: usize) -> [u32; 16]
     ensures { λ r. ⌜ r ≡ fields (part size (now (records .entry)) v) .counts ⌝ }
 {
     let at = 98 * v;
-    let x = version::read(&records[at..at + 98]);
-    x.counts
+    version::counts(&records[at..at + 98])
 }
 
 // User v's own count in its place; 0 says that no record is held of v.
@@ -21,6 +20,5 @@ pub(crate) fn own_count(records: &[u8], v: usize) -> u32
     requires { ⌜ (length (now records) ≡ 1568) × (v < 16) ⌝ }
     ensures { λ r. ⌜ r ≡ count (part size (now (records .entry)) v) v ⌝ }
 {
-    let all = counts(records, v);
-    all[v]
+    layout::u32_at(records, 98 * v + 34 + 4 * v)
 }

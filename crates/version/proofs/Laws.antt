@@ -1,27 +1,88 @@
--- The orders of two structures' fields are those of their records.
-use Prim.Native.Nat.{ℕ, _+_, _<_, _≤_}
+-- The fields of a record are read from its first 98 bytes, and the orders of two structures' fields are those of their records.
+use Prim.Native.Nat.{ℕ, _+_, _*_, _-_, _<_}
 use mathlib.Core.Bool.{not, _&&_}
-use mathlib.Core.List.{List}
-use mathlib.Core.Path.{_≡_, refl, ap, ap₂, _∙_}
+use mathlib.Core.List.{List, _++_, append-nil}
+use mathlib.Core.Path.{_≡_, sym, ap, ap₂, _∙_}
+use native.Mathlib.Decide.{decLt}
 use native.Mathlib.Omega.{arith}
 use lib.Dec.{leb, eqb}
-use lib.ListN.{getD}
-use Rattle.layout.proofs.Values.{getD-values}
-use Rattle.protocol.specs.Version.{count, atOrBefore, strictlyBefore}
+use lib.ListN.{length, getD, take, drop, replicate, getD-replicate, length-drop, List·getD-append, List·getD-eq-default}
+use lib.Seq.{getD-take, getD-drop, getD-append-add, take-length, length-take-le}
+use Rattle.layout.specs.Bytes.{four, part, values}
+use Rattle.layout.proofs.Bytes.{four-part}
+use Rattle.layout.proofs.Values.{getD-values, values-cong, values-part}
+use Rattle.protocol.specs.Version.{size, count, countsBefore, countsStrictlyBefore, atOrBefore, strictlyBefore}
+use Rattle.search.specs.Search.{every}
 use Rattle.search.proofs.Search.{every-cong}
-use Rattle.version.specs.Version.{fields, countsBefore, countsStrictlyBefore}
+use Rattle.version.specs.Version.{fields, countIn}
 
-pub count-fields : (x : List ℕ) (v : ℕ) → v < 16 → getD (fields x .counts) v 0 ≡ count x v
+module _ (x y : List ℕ) (alike : (i : ℕ) → i < size → getD x i 0 ≡ getD y i 0) where
+  count-alike : (v : ℕ) → v < 16 → count x v ≡ count y v
+  unfolding four
+  count-alike v h =
+      rw (
+        alike (34 + 4 * v) (omega arith),
+        alike (34 + 4 * v + 1) (omega arith),
+        alike (34 + 4 * v + 2) (omega arith),
+        alike (34 + 4 * v + 3) (omega arith),
+      )
+
+  pub counts-alike : values (count x) 0 16 ≡ fields y .counts
+  unfolding fields
+  counts-alike = values-cong (count x) (count y) 0 16 (λ v a b. count-alike v b)
+
+  pub fields-alike : fields x ≡ fields y
+  unfolding fields
+  fields-alike = λ i. record {
+    owner = alike 1 (omega arith) i;
+    handle = values-cong _ _ 0 32 (λ n a b. alike (2 + n) (omega arith)) i;
+    counts = counts-alike i;
+  }
+
+  pub zero-alike : (N : ℕ) → every (λ v. eqb (count x v) 0) N (16 - N) ≡ every (λ v. eqb (count y v) 0) N (16 - N)
+  zero-alike N = every-cong _ _ N (16 - N) (λ v a b. ap (λ n. eqb n 0) (count-alike v (omega arith)))
+
+-- Its first 98 bytes alone; and with zeros behind, where it has fewer.
+pub first-alike : (x : List ℕ) (i : ℕ) → i < size → getD (take size x) i 0 ≡ getD x i 0
+first-alike x i h = getD-take size x i 0 h
+
+pub padded-alike :
+    (x : List ℕ) (i : ℕ) → i < size → getD (take (length x) x ++ drop (length x) (replicate size 0)) i 0 ≡ getD x i 0
+padded-alike x i h =
+    elim (decLt i (length x)) [
+      | yes l ↦ rw take-length (List·getD-append x _ 0 i l)
+      | no g ↦
+          let j : ℕ = i - length x in
+          let e : i ≡ length x + j = omega arith in
+          rw (take-length, List·getD-eq-default x 0 {n = i} (omega arith), e, getD-append-add x (drop (length x) (replicate size 0)) j 0, getD-drop {A = ℕ} (length x) (replicate size 0) j 0)
+          (getD-replicate {A = ℕ} size (length x + j) 0 0 (omega arith))
+    ]
+
+-- A count, read where its record stands among others.
+pub count-at : (list : List ℕ) (i v : ℕ) → v < 16 → four list (98 * i + 34 + 4 * v) ≡ count (part size list i) v
+count-at list i v h =
+    let e : 98 * i + 34 + 4 * v ≡ 98 * i + (34 + 4 * v) = omega arith in
+    rw e (sym (four-part list (98 * i) 98 (34 + 4 * v) (omega arith)))
+
+-- The handle, copied into an array of its length.
+pub handle-copied :
+    (x s : List ℕ) → length x ≡ size → s ≡ take 32 (drop 2 x) →
+    take (length s) s ++ drop (length s) (replicate 32 0) ≡ values (λ i. getD x (2 + i) 0) 0 32
+handle-copied x s h e =
+    let l : length s ≡ 32 = rw e (length-take-le 32 (drop 2 x) (simp length-drop (omega arith))) in
+    rw (take-length, l) (append-nil s ∙ (e ∙ sym (values-part x 2 32 (omega arith))))
+
+pub count-fields : (x : List ℕ) (v : ℕ) → v < 16 → countIn (fields x .counts) v ≡ count x v
 unfolding fields
 count-fields x v h = let e : 0 + v ≡ v = omega arith in getD-values (count x) 0 16 v h ∙ ap (count x) e
 
 module _ (x y : List ℕ) where
-  pub before-fields : countsBefore (fields x .counts) (fields y .counts) ≡ atOrBefore x y
-  unfolding countsBefore atOrBefore
+  pub before-fields : countsBefore (countIn (fields x .counts)) (countIn (fields y .counts)) ≡ atOrBefore x y
+  unfolding countsBefore
   before-fields = every-cong _ _ 0 16 (λ v a b. ap₂ leb (count-fields x v b) (count-fields y v b))
 
-  pub strictly-fields : countsStrictlyBefore (fields x .counts) (fields y .counts) ≡ strictlyBefore x y
-  unfolding countsStrictlyBefore strictlyBefore
+  pub strictly-fields : countsStrictlyBefore (countIn (fields x .counts)) (countIn (fields y .counts)) ≡ strictlyBefore x y
+  unfolding countsStrictlyBefore
   strictly-fields =
       ap₂ (λ p q. p && not q) before-fields
       (every-cong _ _ 0 16 (λ v a b. ap₂ eqb (count-fields x v b) (count-fields y v b)))

@@ -1,8 +1,8 @@
--- A version structure's fields, as the code holds them.
+-- A version structure's fields, as the code holds them, and how two structures' counts stand.
 use Prim.Native.Nat.{ℕ, _+_}
-use mathlib.Core.Bool.{Bool, not, _&&_}
+use mathlib.Core.Bool.{cond}
 use mathlib.Core.List.{List}
-use lib.Dec.{leb, eqb}
+use lib.Dec.{leb}
 use lib.ListN.{getD}
 use Rattle.layout.specs.Bytes.{values}
 use Rattle.search.specs.Search.{every}
@@ -13,9 +13,10 @@ use Rattle.version.specs.declared.Version.{Version}
 unfoldable pub fields : List ℕ → Version
 fields x = record { owner = owner x; handle = values (λ i. getD x (2 + i) 0) 0 32; counts = values (count x) 0 16 }
 
--- At or before, and strictly before, of two structures' sixteen counts.
-unfoldable pub countsBefore : List ℕ → List ℕ → Bool
-countsBefore x y = every (λ v. leb (getD x v 0) (getD y v 0)) 0 16
+-- The count of user v among a structure's counts.
+abbrev pub countIn : List ℕ → ℕ → ℕ
+countIn cs v = getD cs v 0
 
-unfoldable pub countsStrictlyBefore : List ℕ → List ℕ → Bool
-countsStrictlyBefore x y = countsBefore x y && not (every (λ v. eqb (getD x v 0) (getD y v 0)) 0 16)
+-- How the counts f of users 0 to k - 1 stand to the counts g: 1 if some is below, and 2 more if some is above.
+unfoldable pub standing : (ℕ → ℕ) → (ℕ → ℕ) → ℕ → ℕ
+standing f g k = cond (every (λ v. leb (g v) (f v)) 0 k) 0 1 + cond (every (λ v. leb (f v) (g v)) 0 k) 0 2

@@ -6,14 +6,11 @@ use borrow.Author.Needs.{needs}
 use Rattle.layout.proofs.behind.Statement.{statement}
 use Rattle.layout.proofs.behind.Tie as tie
 
+rest-requires : tie.Need-rest-requires
+rest-requires c κs = search needs
+
 returns : tie.Need-returns
-returns c = sym (List·getD-eq-default (c .before .args .b .now) 0 (omega arith))
-
-sub-if2 : tie.Need-sub-if2
-sub-if2 c = search needs
-
-returns-2 : tie.Need-returns-2
-returns-2 c = sym (List·getD-eq-default (c .before .before .args .b .now) 0 (omega arith))
+returns c = sym (List·getD-eq-default (c .before .before .before .args .b .now) 0 (omega (arith, c .before .rest .ensures)))
 
 add-result : tie.Need-add-result
 add-result c = search needs
@@ -21,9 +18,9 @@ add-result c = search needs
 shared-slice-read-result : tie.Need-shared-slice-read-result
 shared-slice-read-result c = search needs
 
-returns-3 : tie.Need-returns-3
-returns-3 c = search needs
+returns-2 : tie.Need-returns-2
+returns-2 c = search needs
 
 pub behind-spec : {M : Type 1} → statement M
 behind-spec =
-    tie.close (tie.spec returns sub-if2 returns-2 add-result shared-slice-read-result returns-3)
+    tie.close (tie.spec rest-requires returns add-result shared-slice-read-result returns-2)

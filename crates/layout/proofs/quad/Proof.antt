@@ -1,4 +1,4 @@
--- Four bytes, joined: what each call ensures, put together.
+-- Four bytes, joined: read at one go, or what each call ensures, put together.
 use Prim.Native.Nat.{ℕ, _+_, _*_}
 use mathlib.Core.List.{List}
 use mathlib.Core.Path.{_≡_}
@@ -17,6 +17,43 @@ joined b at k p q r s t ep eq er es e =
     let a1 : at + (k + 1) ≡ at + k + 1 = omega arith in
     let a2 : at + (k + 2) ≡ at + k + 2 = omega arith in
     let a3 : at + (k + 3) ≡ at + k + 3 = omega arith in rw (e, ep, eq, er, es, a1, a2, a3)
+
+add-if1 : tie.Need-add-if1
+add-if1 c = search needs
+
+rest-requires : tie.Need-rest-requires
+rest-requires c κs = search needs
+
+add-i : tie.Need-add-i
+add-i c = search needs
+
+shared-slice-read-join : tie.Need-shared-slice-read-join
+shared-slice-read-join c = search needs
+
+add-join : tie.Need-add-join
+add-join c = search needs
+
+shared-slice-read-join-2 : tie.Need-shared-slice-read-join-2
+shared-slice-read-join-2 c = search needs
+
+add-join-2 : tie.Need-add-join-2
+add-join-2 c = search needs
+
+shared-slice-read-join-3 : tie.Need-shared-slice-read-join-3
+shared-slice-read-join-3 c = search needs
+
+add-join-3 : tie.Need-add-join-3
+add-join-3 c = search needs
+
+shared-slice-read-join-4 : tie.Need-shared-slice-read-join-4
+shared-slice-read-join-4 c = search needs
+
+join-requires : tie.Need-join-requires
+join-requires c κs = search needs
+
+returns : tie.Need-returns
+unfolding four
+returns c = search needs
 
 behind-requires : tie.Need-behind-requires
 behind-requires c κs = search needs
@@ -39,17 +76,29 @@ add-behind-3 c = search needs
 behind-requires-4 : tie.Need-behind-requires-4
 behind-requires-4 c κs = search needs
 
-join-requires : tie.Need-join-requires
-join-requires c κs = search needs
+join-requires-2 : tie.Need-join-requires-2
+join-requires-2 c κs = search needs
 
-returns : tie.Need-returns
-returns c = joined _ _ _ _ _ _ _ _
-    (c .before .before .before .before .behind .ensures) (c .before .before .before .behind2 .ensures) (c .before .before .behind3 .ensures) (c .before .behind4 .ensures) (c .join .ensures)
+returns-2 : tie.Need-returns-2
+returns-2 c = joined _ _ _ _ _ _ _ _
+    (c .before .before .before .before .behind .ensures) (c .before .before .before .behind2 .ensures) (c .before .before .behind3 .ensures) (c .before .behind4 .ensures) (c .join2 .ensures)
 
 pub quad-spec : {M : Type 1} → statement M
 quad-spec =
     tie.close
     (tie.spec
+    add-if1
+    rest-requires
+    add-i
+    shared-slice-read-join
+    add-join
+    shared-slice-read-join-2
+    add-join-2
+    shared-slice-read-join-3
+    add-join-3
+    shared-slice-read-join-4
+    join-requires
+    returns
     behind-requires
     add-behind
     behind-requires-2
@@ -57,5 +106,5 @@ quad-spec =
     behind-requires-3
     add-behind-3
     behind-requires-4
-    join-requires
-    returns)
+    join-requires-2
+    returns-2)

@@ -1,36 +1,37 @@
--- Strings of other lengths differ, and so do strings of which some byte differs.
--- The invariant: the bytes passed are the same, and the lengths are.
-use Prim.Native.Nat.{ℕ, _<_, _≤_, _-_}
-use mathlib.Core.Path.{_≡_, sym, ap, _∙_}
+-- Strings of other lengths differ; of strings of one length each byte is compared.
+-- The invariant: whether the bytes passed are the same, and the lengths are.
+use Prim.Native.Nat.{_≤_, _-_}
+use mathlib.Core.Bool.{_&&_}
+use mathlib.Core.Path.{_≡_, refl, sym, ap, _∙_}
 use native.Mathlib.Omega.{arith}
+use lib.Dec.{eqb}
 use lib.ListN.{length, getD}
-use lib.Seq.{ext-getD}
-use borrow.Author.Count.{below-more}
-use Rattle.search.specs.Search.{same}
-use Rattle.search.proofs.Search.{same-refl, differ-same}
+use Rattle.search.specs.Search.{find, every}
+use Rattle.search.proofs.Search.{differ-same, every-more, same-every}
 use Rattle.search.proofs.equal.Statement.{statement}
 use Rattle.search.proofs.equal.Tie as tie
 
 abbrev Inv-loop : tie.InvT-loop
-Inv-loop a b i₀ i = (i ≤ length a) × (length a ≡ length b) × ((j : ℕ) → j < i → getD a j 0 ≡ getD b j 0)
+Inv-loop a b alike₀ i₀ alike i = (i ≤ length a) × (length a ≡ length b) × (alike ≡ every (λ j. eqb (getD a j 0) (getD b j 0)) 0 i)
 
 abbrev μ-loop : tie.MeasureT-loop
-μ-loop a b i₀ i = length a - i
+μ-loop a b alike₀ i₀ alike i = length a - i
 
 returns : tie.Need-returns Inv-loop μ-loop
 returns c = sym (differ-same _ _ (λ e. c .if1 .taken (ap length e)))
 
 loop-holds : tie.Need-loop-holds Inv-loop μ-loop
-loop-holds c = (omega arith, c .if1 .left, λ j h. absurd (omega arith))
+unfolding every find
+loop-holds c = (omega arith, c .if1 .left, refl)
 
-shared-slice-read-if2 : tie.Need-shared-slice-read-if2 Inv-loop μ-loop
-shared-slice-read-if2 c = omega arith
+shared-slice-read-still : tie.Need-shared-slice-read-still Inv-loop μ-loop
+shared-slice-read-still c = omega arith
 
-shared-slice-read-if2-2 : tie.Need-shared-slice-read-if2-2 Inv-loop μ-loop
-shared-slice-read-if2-2 c = omega arith
+shared-slice-read-still-2 : tie.Need-shared-slice-read-still-2 Inv-loop μ-loop
+shared-slice-read-still-2 c = omega arith
 
-returns-2 : tie.Need-returns-2 Inv-loop μ-loop
-returns-2 c = sym (differ-same _ _ (λ e. c .if2 .taken (ap (λ l. getD l (c .before .before .before .before .loop .i) 0) e)))
+still-requires : tie.Need-still-requires Inv-loop μ-loop
+still-requires c κs = omega arith
 
 add-i : tie.Need-add-i Inv-loop μ-loop
 add-i c = omega arith
@@ -39,10 +40,19 @@ loop-less : tie.Need-loop-less Inv-loop μ-loop
 loop-less c = omega arith
 
 loop-again : tie.Need-loop-again Inv-loop μ-loop
-loop-again c = (omega arith, omega arith, below-more _ _ (c .before .before .before .before .loop .inv .2) (c .if2 .left))
+loop-again c =
+    let a = c .before .before .before .before .before .before .before .before .args in
+    let l = c .before .before .before .before .loop in (
+      omega arith,
+      omega arith,
+      c .still .ensures ∙ (ap (λ t. t && eqb (getD (a .a .now) (l .i) 0) (getD (a .b .now) (l .i) 0)) (l .inv .2) ∙
+          sym (every-more (λ j. eqb (getD (a .a .now) j 0) (getD (a .b .now) j 0)) (l .i))),
+    )
 
-returns-3 : tie.Need-returns-3 Inv-loop μ-loop
-returns-3 c = sym (ap (same (c .before .before .before .args .a .now)) (sym (ext-getD 0 _ _ (c .before .loop .inv .1) (λ j h. c .before .loop .inv .2 j (omega arith)))) ∙ same-refl _)
+returns-2 : tie.Need-returns-2 Inv-loop μ-loop
+returns-2 c =
+    let e : c .before .loop .i ≡ length (c .before .before .before .before .before .args .a .now) = omega arith in
+    (rw e at (c .before .loop .inv .2)) ∙ same-every _ _ (c .before .loop .inv .1)
 
 pub equal-spec : {M : Type 1} → statement M
 equal-spec =
@@ -52,10 +62,10 @@ equal-spec =
     μ-loop
     returns
     loop-holds
-    shared-slice-read-if2
-    shared-slice-read-if2-2
-    returns-2
+    shared-slice-read-still
+    shared-slice-read-still-2
+    still-requires
     add-i
     loop-less
     loop-again
-    returns-3)
+    returns-2)

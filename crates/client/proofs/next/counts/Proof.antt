@@ -6,7 +6,8 @@ use native.Mathlib.Omega.{arith}
 use borrow.Author.Needs.{needs}
 use lib.ListN.{length, getD, length-set}
 use Rattle.protocol.specs.List.{records}
-use Rattle.client.proofs.Records.{owner-at, owner-below, count-at}
+use Rattle.version.proofs.Laws.{count-at}
+use Rattle.client.proofs.Records.{owner-at, owner-below}
 use Rattle.client.proofs.Tally.{ownFrom, none-passed, one-passed, all-passed}
 use Rattle.client.proofs.next.counts.Statement.{statement}
 use Rattle.client.proofs.next.counts.Tie as tie

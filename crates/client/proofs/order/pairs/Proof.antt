@@ -76,8 +76,8 @@ loop-again c =
           not-false _ (c .if1 .left)),
     )
 
-before-next-requires : tie.Need-before-next-requires Inv-loop μ-loop Inv-pairs μ-pairs
-before-next-requires c κs = search needs
+strictly-before-requires : tie.Need-strictly-before-requires Inv-loop μ-loop Inv-pairs μ-pairs
+strictly-before-requires c κs = search needs
 
 add-i : tie.Need-add-i Inv-loop μ-loop Inv-pairs μ-pairs
 add-i c = omega arith
@@ -95,7 +95,7 @@ pairs-again c =
           below-more _ _ (o .pairs .inv .1 new e)
           (λ m a b.
           span-more _ (l .loop .j) (l .loop .inv .2 new)
-          (compared-new _ new _ _ _ (ap (λ (v : Version). v .counts) (f (o .pairs .i) (omega arith))) _ _ (omega arith) e (c .before .before-next .ensures) ∙
+          (compared-new _ new _ _ _ (ap (λ (v : Version). v .counts) (f (o .pairs .i) (omega arith))) _ _ (omega arith) e (c .before .strictly-before .ensures) ∙
           not-false _ (c .if2 .left))
           m a (omega arith)),
     )
@@ -145,7 +145,7 @@ pairs-spec =
     add-j-2
     loop-less
     loop-again
-    before-next-requires
+    strictly-before-requires
     add-i
     pairs-less
     pairs-again

@@ -2,20 +2,14 @@
 -- There is no loop.
 use mathlib.Core.Path.{sym, _∙_}
 use borrow.Author.Tests.{eq-eqb, ne-eqb, not-true, not-false}
-use borrow.Author.Needs.{needs}
 use Rattle.protocol.specs.Version.{owner}
 use Rattle.server.proofs.Follow.{follows-fields}
-use Rattle.server.proofs.checks.follows.Tie as tie
+use borrow.Author.Needs.{needs}
 use Rattle.server.proofs.checks.follows.Statement.{statement}
+use Rattle.server.proofs.checks.follows.Tie as tie
 
-counts-requires : tie.Need-counts-requires
-counts-requires c κs = search needs
-
-mul-in-order : tie.Need-mul-in-order
-mul-in-order c = search needs
-
-array-read-in-order : tie.Need-array-read-in-order
-array-read-in-order c = search needs
+own-count-requires : tie.Need-own-count-requires
+own-count-requires c κs = search needs
 
 in-order-requires : tie.Need-in-order-requires
 in-order-requires c κs = search needs
@@ -23,14 +17,14 @@ in-order-requires c κs = search needs
 returns : tie.Need-returns
 returns c = λ u x eo en.
     let a = c .before .before .before .before .args in
-    let k = c .before .before .counts .ensures in
+    let k = c .before .before .own-count .ensures in
     let i = rw (k, en) at (sym (c .before .in-order .ensures) ∙ not-true _ (c .if1 .taken)) in
     sym (follows-fields (record { users = u; records = a .records .now }) x (a .v) (search needs) (search needs) ∙ rw i)
 
 returns-2 : tie.Need-returns-2
 returns-2 c = λ u x eo en.
     let a = c .before .before .before .before .before .args in
-    let k = c .before .before .before .counts .ensures in
+    let k = c .before .before .before .own-count .ensures in
     let i = rw (k, en) at (sym (c .before .before .in-order .ensures) ∙ not-false _ (c .before .if1 .left)) in
     sym (follows-fields (record { users = u; records = a .records .now }) x (a .v) (search needs) (search needs) ∙ rw (i, eq-eqb (a .v) (owner x) (c .if2 .taken ∙ eo)))
 
@@ -40,16 +34,10 @@ mul-result c = search needs
 array-read-result : tie.Need-array-read-result
 array-read-result c = search needs
 
-mul-result-2 : tie.Need-mul-result-2
-mul-result-2 c = search needs
-
-array-read-result-2 : tie.Need-array-read-result-2
-array-read-result-2 c = search needs
-
 returns-3 : tie.Need-returns-3
 returns-3 c = λ u x eo en.
     let a = c .before .before .before .before .before .args in
-    let k = c .before .before .before .counts .ensures in
+    let k = c .before .before .before .own-count .ensures in
     let i = rw (k, en) at (sym (c .before .before .in-order .ensures) ∙ not-false _ (c .before .if1 .left)) in
     rw (k, en) (sym (follows-fields (record { users = u; records = a .records .now }) x (a .v) (search needs) (search needs) ∙ rw (i, ne-eqb (a .v) (owner x) (λ e. c .if2 .left (e ∙ sym eo)))))
 
@@ -57,14 +45,10 @@ pub follows-spec : {M : Type 1} → statement M
 follows-spec =
     tie.close
     (tie.spec
-    counts-requires
-    mul-in-order
-    array-read-in-order
+    own-count-requires
     in-order-requires
     returns
     returns-2
     mul-result
     array-read-result
-    mul-result-2
-    array-read-result-2
     returns-3)

@@ -1,0 +1,21 @@
+-- The fields are what the three calls read.
+use Rattle.version.specs.Version.{fields}
+use borrow.Author.Needs.{needs}
+use Rattle.version.proofs.read_whole.Statement.{statement}
+use Rattle.version.proofs.read_whole.Tie as tie
+
+byte-at-requires : tie.Need-byte-at-requires
+byte-at-requires c κs = search needs
+
+read-handle-requires : tie.Need-read-handle-requires
+read-handle-requires c κs = search needs
+
+read-counts-requires : tie.Need-read-counts-requires
+read-counts-requires c κs = search needs
+
+returns : tie.Need-returns
+unfolding fields
+returns c = λ i. record { owner = (c .before .before .byte-at .ensures) i; handle = (c .before .read-handle .ensures) i; counts = (c .read-counts .ensures) i }
+
+pub read-whole-spec : {M : Type 1} → statement M
+read-whole-spec = tie.close (tie.spec byte-at-requires read-handle-requires read-counts-requires returns)
