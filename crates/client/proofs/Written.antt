@@ -1,7 +1,7 @@
 -- The next structure as it is written: the four bytes of a count, the counts in a row, and the whole.
 use Prim.Native.Nat.{ℕ, zero, suc, _+_, _*_, _-_, _≤_}
 use mathlib.Core.List.{List, [], _∷_, _++_, append-assoc, append-nil}
-use mathlib.Core.Path.{_≡_, refl, sym, ap, _∙_}
+use mathlib.Core.Path.{_≡_, sym, ap, _∙_}
 use native.Mathlib.Numerals.{add-one}
 use native.Mathlib.Omega.{arith}
 use borrow.Rule.Slice.PartMut.{midOf, putMid, same-len-mid, mid-len}
@@ -11,14 +11,13 @@ use Rattle.layout.specs.Bytes.{bytes4}
 use Rattle.layout.proofs.Bytes.{length-bytes4}
 use Rattle.protocol.specs.Version.{counts}
 
-pub four-stores :
-    (l : List ℕ) (a b c d : ℕ) → length l ≡ 4 → set (set (set (set l 0 a) 1 b) 2 c) 3 d ≡ a ∷ b ∷ c ∷ d ∷ []
-four-stores [] a b c d h = absurd (omega arith)
-four-stores (x ∷ []) a b c d h = absurd (omega arith)
-four-stores (x ∷ y ∷ []) a b c d h = absurd (omega arith)
-four-stores (x ∷ y ∷ z ∷ []) a b c d h = absurd (omega arith)
-four-stores (x ∷ y ∷ z ∷ w ∷ []) a b c d h = refl
-four-stores (x ∷ y ∷ z ∷ w ∷ v ∷ l) a b c d h = absurd (omega arith)
+-- Four bytes copied over four bytes.
+pub four-copied :
+    (x : ℕ) (o b p : List ℕ) → length o ≡ 4 → b ≡ bytes4 x → p ≡ take (length b) b ++ drop (length b) o → p ≡ bytes4 x
+four-copied x o b p lo eb ep =
+    let lb : length b ≡ 4 = ap length eb ∙ length-bytes4 x in
+    let z : drop (length b) o ≡ [] = drop-of-length-le o {i = length b} (omega arith) in
+    ep ∙ rw (z, append-nil, take-length b) eb
 
 counts-last : (f : ℕ → ℕ) (i k : ℕ) → counts f i (suc k) ≡ counts f i k ++ bytes4 (f (i + k))
 unfolding counts

@@ -33,10 +33,8 @@ fn write_count(x: u32, out: &mut [u8])
     requires { ⌜ length (now out) ≡ 4 ⌝ }
     ensures { λ r. ⌜ now (out .exit) ≡ bytes4 x ⌝ }
 {
-    out[0] = (x / 16777216) as u8;
-    out[1] = (x / 65536 % 256) as u8;
-    out[2] = (x / 256 % 256) as u8;
-    out[3] = (x % 256) as u8;
+    let b = layout::u32_bytes(x);
+    bytes::copy(&b, out);
 }
 
 fn write_counts(counts: [u32; 16], out: &mut [u8])

@@ -7,8 +7,8 @@ use native.Mathlib.Omega.{arith}
 use lib.ListN.{length, take, drop, replicate, length-drop}
 use lib.Seq.{take-all}
 use Rattle.protocol.specs.Check.{check}
-use Rattle.refusal.specs.Answer.{Answer, accepted, refused, andThen}
-use Rattle.refusal.specs.Refusal.{refusal, checked}
+use Rattle.refusal.specs.Answer.{Answer, accepted, andThen}
+use Rattle.refusal.specs.Refusal.{checked}
 use Rattle.refusal.specs.declared.Refusal.{Refusal}
 use Rattle.refusal.proofs.Numbered.{numbered}
 use Rattle.refusal.specs.declared.Check.{Check}

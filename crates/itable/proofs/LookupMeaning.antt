@@ -1,5 +1,5 @@
 -- A lookup means what LookupMeaning says: at each block it ends or leads on, and either the path says what the i-number has or it fails.
-use Prim.Native.Nat.{ℕ, zero, suc, _+_, _*_, _≤_, _<_}
+use Prim.Native.Nat.{ℕ, zero, suc, _+_, _-_, _*_, _<_}
 use mathlib.Core.Bool.{Bool, true, false}
 use mathlib.Core.List.{List, [], _∷_}
 use mathlib.Core.Logic.{_⊎_, _↔_, inl, inr, ⊎-elim}
@@ -8,7 +8,7 @@ use native.Mathlib.Nat.{eq-or-lt-of-le}
 use native.Mathlib.Omega.{arith}
 use lib.Dec.{leb, eqb}
 use lib.ListN.{length}
-use borrow.Author.Tests.{leb-true, leb-false, eqb-true, eqb-false, le-leb, lt-leb, eq-eqb}
+use borrow.Author.Tests.{leb-true, leb-false, eqb-true, eqb-false, le-leb, eq-eqb}
 use Rattle.layout.specs.Bytes.{part, parts}
 use Rattle.search.specs.Search.{same}
 use Rattle.search.proofs.Bool.{bool-cases, not-both}
@@ -20,9 +20,9 @@ use Rattle.refusal.proofs.Means.{Stage, Unless, tests-mean, goes-on, ends as st
 use Rattle.sha256.specs.Sha256.{sha256}
 use Rattle.itable.specs.Block.{size, kind, used, number, value, wellFormed}
 use Rattle.itable.specs.Table.{Level}
-use Rattle.itable.specs.Lookup.{Entry, found, absent, lastAtMost, known, answerAt, consult, pathSteps, lookup}
-use Rattle.itable.specs.LookupMeaning.{Sizes, WellFormed, Link, toRoot, toChild, Passes, Ends, in-leaf, not-in-leaf, none-leads, Leads, Says, ends, leads, Fails, missing, wrong-hash, malformed, left-over, later, Why, lengths, along, LookupMeans}
-use Rattle.itable.proofs.Place.{ascends-lt, last-at, entry-found, entry-absent}
+use Rattle.itable.specs.Lookup.{Entry, found, absent, known, answerAt, consult, pathSteps, lookup}
+use Rattle.itable.specs.LookupMeaning.{Sizes, WellFormed, Link, toRoot, toChild, Passes, Ends, in-leaf, not-in-leaf, none-leads, Leads, Says, ends, leads, Fails, missing, wrong-hash, malformed, left-over, later, Why, lengths, along, LookupMeans, NoneOnlyAtRoot}
+use Rattle.itable.proofs.Place.{ascends-lt, last-slot, last-none, entry-found, entry-absent}
 use Rattle.itable.proofs.Consult as consulting
 use Rattle.itable.proofs.BlockMeaning.{formed-means}
 
@@ -37,16 +37,6 @@ last-place t (suc n) =
     ⊎-elim (λ w. inl (w .0, omega (arith, w .1), w .2, λ m a b. span-more {P = λ k. t k ≡ false} (suc (w .0)) n (w .3) h m a (omega arith)))
     (λ f. inr (λ j l. span-more {P = λ k. t k ≡ false} 0 n (λ m a b. f m b) h j (omega arith) (omega arith))) (last-place t n))
     (bool-cases (t n))
-
--- The slot that leads on is the last that is at most i, whatever stands before it.
-last-slot :
-    (f : ℕ → ℕ) (i n j : ℕ) → j < n → f j ≤ i → ((m : ℕ) → j < m → m < n → i < f m) → lastAtMost f i n ≡ suc j
-unfolding lastAtMost
-last-slot f i zero j l h above = absurd (omega arith)
-last-slot f i (suc n) j l h above =
-    ⊎-elim (λ e. rw (le-leb (f n) i (rw e at h), e))
-    (λ m. rw (lt-leb (f n) i (above n m (omega arith))) (last-slot f i n j m h (λ k a b. above k a (omega arith))))
-    (eq-or-lt-of-le {n = j} {m = n} (omega arith))
 
 module _ (b : List ℕ) (i : ℕ) where
   -- A block ends the lookup or leads on.
@@ -86,7 +76,7 @@ module _ (b : List ℕ) (i : ℕ) where
     ends-answer due first w e (not-in-leaf k f) =
         consulting.answer-leaf b i left d on k ∙ ap (known left d) (entry-absent (number b) (value b) (used b) i f)
     ends-answer due first w e (none-leads k f) =
-        consulting.answer-none b i left d on k (last-at (number b) i (used b) 0 (omega arith) (λ j l. absurd (omega arith)) (λ j a l. f j l))
+        consulting.answer-none b i left d on k (last-none (number b) i (used b) f)
 
     leads-answer : (j : ℕ) → Leads b i j → answerAt b i left d on ≡ on j
     leads-answer j w =
@@ -249,3 +239,10 @@ module _ (handle : List ℕ) (i : ℕ) (path : List ℕ) where
 
 pub lookup-means : LookupMeans
 lookup-means handle i path = (accepts handle i path, λ n p q. (why handle i path n p q, refuses handle i path n p q))
+
+-- A child's first number is that of the slot that led to it.
+pub none-only-at-root : NoneOnlyAtRoot
+none-only-at-root b c i j l k w none =
+    let due : kind b - 1 ≡ 0 → ⊥ = λ z. omega arith in
+    let some : used c ≡ 0 → ⊥ = λ z. due (w .empty z .0) in
+    omega (arith, w .first-number due, l .at-most, none 0 (omega arith))

@@ -4,7 +4,7 @@ use Prim.Native.Nat.{ℕ, zero, suc, _+_, _*_, _/_, _≤_, _<_}
 use mathlib.Core.Bool.{Bool}
 use mathlib.Core.List.{List}
 use mathlib.Core.Logic.{⊎-elim}
-use mathlib.Core.Path.{_≡_, sym, subst, _∙_}
+use mathlib.Core.Path.{_≡_, refl, subst, _∙_}
 use native.Mathlib.Nat.{eq-or-lt-of-le}
 use native.Mathlib.Omega.{arith}
 use lib.Dec.{ltb, eqb}
@@ -59,16 +59,27 @@ above-place κ L i p h q =
       high = λ j l m. q .high (16 * j) (omega arith) (omega arith);
     }
 
--- The last of n places whose number is at most i, where just the first q are.
+-- The slot that leads on is the last whose number is at most i, whatever stands before it; none does where all are above i.
+pub last-slot :
+    (f : ℕ → ℕ) (i n j : ℕ) → j < n → f j ≤ i → ((m : ℕ) → j < m → m < n → i < f m) → lastAtMost f i n ≡ suc j
+unfolding lastAtMost
+last-slot f i zero j l h above = absurd (omega arith)
+last-slot f i (suc n) j l h above =
+    ⊎-elim (λ e. rw (le-leb (f n) i (rw e at h), e))
+    (λ m. rw (lt-leb (f n) i (above n m (omega arith))) (last-slot f i n j m h (λ k a b. above k a (omega arith))))
+    (eq-or-lt-of-le {n = j} {m = n} (omega arith))
+
+pub last-none : (f : ℕ → ℕ) (i n : ℕ) → ((j : ℕ) → j < n → i < f j) → lastAtMost f i n ≡ 0
+unfolding lastAtMost
+last-none f i zero above = refl
+last-none f i (suc n) above = rw (lt-leb (f n) i (above n (omega arith))) (last-none f i n (λ j l. above j (omega arith)))
+
+-- Where just the first q of n places are at most i.
 pub last-at :
     (f : ℕ → ℕ) (i n q : ℕ) → q ≤ n → ((j : ℕ) → j < q → f j ≤ i) → ((j : ℕ) → q ≤ j → j < n → i < f j) →
     lastAtMost f i n ≡ q
-unfolding lastAtMost
-last-at f i zero q h lo hi = omega arith
-last-at f i (suc n) q h lo hi =
-    ⊎-elim (λ e. rw (le-leb (f n) i (lo n (omega arith))) (sym e))
-    (λ l. rw (lt-leb (f n) i (hi n (omega arith) (omega arith))) (last-at f i n q (omega arith) lo (λ j a b. hi j a (omega arith))))
-    (eq-or-lt-of-le {n = q} {m = suc n} h)
+last-at f i n zero h lo hi = last-none f i n (λ j l. hi j (omega arith) l)
+last-at f i n (suc j) h lo hi = last-slot f i n j h (lo j (omega arith)) (λ m a l. hi m a l)
 
 -- The answer among n numbers, where j is the first that is i, and where none is.
 module _ (f : ℕ → ℕ) (g : ℕ → List ℕ) (n i : ℕ) where

@@ -95,3 +95,9 @@ LookupMeans =
     (handle : List ℕ) (i : ℕ) (path : List ℕ) →
     ((e : Entry) → (lookup handle i path ≡ accepted e) ↔ (Sizes handle path × Says path i 0 (toRoot handle) e)) ×
     ((n p q : ℕ) → (lookup handle i path ≡ refused n p q) ↔ Why handle i path n p q)
+
+-- "If there is none (only at a root)": where slot j of an inner block leads on to c, and c is well formed there, c has a number at most i.
+abbrev pub NoneOnlyAtRoot : Type 0
+NoneOnlyAtRoot =
+    (b c : List ℕ) (i j : ℕ) → Leads b i j → 4 ≤ kind b → WellFormed (kind b - 1) (number b j) c →
+    ((m : ℕ) → m < used c → i < number c m) → ⊥

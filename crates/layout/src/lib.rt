@@ -33,7 +33,7 @@ pub fn byte_at(b: &[u8], at: usize) -> u8
 }
 
 // The number whose big-endian bytes these are.
-fn join(a: u8, b: u8, c: u8, d: u8) -> u32
+pub fn join(a: u8, b: u8, c: u8, d: u8) -> u32
     ensures { λ r. ⌜ r ≡ a * 16777216 + b * 65536 + c * 256 + d ⌝ }
 {
     (a as u32) * 16777216 + (b as u32) * 65536 + (c as u32) * 256 + (d as u32)

@@ -21,7 +21,7 @@ use Rattle.refusal.specs.Order.{unless, inOrder}
 use Rattle.refusal.proofs.Order.{passing}
 use Rattle.protocol.specs.declared.Server.{Server}
 use Rattle.protocol.specs.Version.{size, owner, count, own}
-use Rattle.protocol.specs.Server.{empty, make, made, slot, held, heldOwn, replaced}
+use Rattle.protocol.specs.Server.{empty, makeSteps, make, made, slot, held, heldOwn, replaced}
 
 -- No bytes count none.
 pub count-none : (v : ℕ) → count [] v ≡ 0
@@ -78,10 +78,14 @@ unfolding held
 held-own s v =
     ⊎-elim (λ t. rw t (count-none v ∙ sym (eqb-true (count (slot s v) v) 0 t))) (λ f. rw f) (bool-cases (eqb (count (slot s v) v) 0))
 
--- A place whose own count is not 0 is held.
+-- A place whose own count is not 0 is held, and one whose own count is 0 is not.
 pub held-slot : (s : Server) (v : ℕ) → (count (slot s v) v ≡ 0 → ⊥) → held s v ≡ slot s v
 unfolding held
 held-slot s v n = rw (ne-eqb (count (slot s v) v) 0 n)
+
+pub held-none : (s : Server) (v : ℕ) → count (slot s v) v ≡ 0 → held s v ≡ []
+unfolding held
+held-none s v e = rw (eq-eqb (count (slot s v) v) 0 e)
 
 -- Equal places hold the same.
 held-cong : (s t : Server) (v : ℕ) → slot s v ≡ slot t v → held s v ≡ held t v
@@ -128,7 +132,7 @@ empty-length N = length-replicate {A = ℕ} 1568 0
 
 -- Making hands back the list that holds nothing, also where it refuses.
 pub made-empty : (N : ℕ) → (M : ℕ) × (made N ≡ empty M)
-unfolding made make inOrder
+unfolding made make makeSteps inOrder
 made-empty N = go (leb 1 N) (leb N 16)
   where
     go : (a b : Bool) → (M : ℕ) × (left (inOrder (unless a 1 0 0 ∷ unless b 1 0 0 ∷ []) (accepted (empty N))) (empty 1) ≡ empty M)
@@ -137,7 +141,7 @@ made-empty N = go (leb 1 N) (leb N 16)
     go false b = (1, refl)
 
 pub made-for : (N : ℕ) → 1 ≤ N → N ≤ 16 → made N ≡ empty N
-unfolding made make
+unfolding made make makeSteps
 made-for N a b =
     ap (λ (r : Answer Server). left r (empty 1))
-    (passing (unless (leb 1 N) 1 0 0 ∷ unless (leb N 16) 1 0 0 ∷ []) (rw (le-leb 1 N a), (rw (le-leb N 16 b), tt)))
+    (passing (makeSteps N) (rw (le-leb 1 N a), (rw (le-leb N 16 b), tt)))

@@ -1,6 +1,6 @@
 -- The client's check of an honest turn: every test but the last count's passes, since the list shows what is held and the user remembers
 -- its own entry. Where its own count is not the last it accepts the next structure, and the server's list then takes that.
-use Prim.Native.Nat.{ℕ, zero, suc, _+_, _-_, _*_, _≤_, _<_}
+use Prim.Native.Nat.{ℕ, _+_, _-_, _*_, _≤_, _<_}
 use mathlib.Core.Bool.{true, _&&_, _||_}
 use mathlib.Core.List.{List}
 use mathlib.Core.Logic.{⊎-elim}

@@ -3,18 +3,18 @@
 use Prim.Native.Nat.{ℕ, _<_}
 use mathlib.Core.List.{List, [], _∷_}
 use mathlib.Core.Logic.{inl, inr}
-use mathlib.Core.Path.{_≡_, refl}
+use mathlib.Core.Path.{_≡_, refl, _∙_}
 use native.Mathlib.Omega.{arith}
 use lib.ListN.{length}
 use Rattle.refusal.specs.Answer.{Answer, accepted, refused}
 use Rattle.refusal.specs.Result.{left}
 use Rattle.protocol.specs.declared.Server.{Server}
-use Rattle.protocol.specs.Version.{owner}
-use Rattle.protocol.specs.Server.{empty, held, allHeld, replaced, commit}
+use Rattle.protocol.specs.List.{entry}
+use Rattle.protocol.specs.Server.{held, allHeld, replaced, commit}
 use Rattle.protocol.specs.Commits.{ServerCall, list, commit-of, serverAfter}
-use Rattle.protocol.specs.Listings.{ListsHeld, ListingsAscend}
+use Rattle.protocol.specs.Listings.{ListingsAscend}
 use Rattle.protocol.proofs.Conditions.{well-formed}
-use Rattle.protocol.proofs.Held.{held-empty, made-empty, now-or-still}
+use Rattle.protocol.proofs.Held.{held-slot, held-none, held-empty, made-empty, now-or-still}
 use Rattle.protocol.proofs.Commits.{committed, after-length}
 use Rattle.protocol.proofs.Listing.{Kept, Listing, listing-from, listing-placed, entry-held}
 
@@ -47,8 +47,12 @@ pub listings-ascend : ListingsAscend
 listings-ascend N calls =
     let s : Server = serverAfter N calls in
     let l : Listing (s .users) s 0 16 (allHeld s) = listing-from (s .users) s (after-kept N calls) 0 16 (omega arith) in
+    let entry-is : (v : ℕ) → v < 16 → entry (allHeld s) v ≡ held s v =
+    λ v h. entry-held (s .users) s (after-kept N calls) 0 16 (allHeld s) l (omega arith) v (omega arith) h
+    in
     record {
       whole = l .whole;
       placed = listing-placed l;
-      entries = λ v h. entry-held (s .users) s (after-kept N calls) 0 16 (allHeld s) l (omega arith) v (omega arith) h;
+      entries = λ v h y w. entry-is v h ∙ (held-slot s v (λ e. w .1 (rw (w .0) at e)) ∙ w .0);
+      no-others = λ v h e. entry-is v h ∙ held-none s v e;
     }

@@ -16,8 +16,11 @@ use Rattle.protocol.specs.List.{records}
 unfoldable pub empty : ℕ → Server
 empty N = record { users = N; records = replicate 1568 0 }
 
+unfoldable pub makeSteps : ℕ → List Step
+makeSteps N = unless (leb 1 N) 1 0 0 ∷ unless (leb N 16) 1 0 0 ∷ []
+
 unfoldable pub make : ℕ → Answer Server
-make N = inOrder (unless (leb 1 N) 1 0 0 ∷ unless (leb N 16) 1 0 0 ∷ []) (accepted (empty N))
+make N = inOrder (makeSteps N) (accepted (empty N))
 
 -- The server's list that making hands back.
 unfoldable pub made : ℕ → Server

@@ -2,9 +2,9 @@
 use Prim.Native.Nat.{ℕ}
 use mathlib.Core.Bool.{Bool, true, false}
 use mathlib.Core.List.{List, [], _∷_}
-use mathlib.Core.Path.{_≡_, refl, sym, ap, _∙_}
+use mathlib.Core.Path.{_≡_, refl}
 use native.Mathlib.Omega.{arith}
-use Rattle.refusal.specs.Answer.{Answer, accepted, refused, andThen}
+use Rattle.refusal.specs.Answer.{Answer, accepted, andThen}
 use Rattle.refusal.specs.Order.{Step, pass, stop, unless, inOrder, tried}
 
 -- Every test passes.

@@ -1,6 +1,6 @@
 -- A stage of tests in code: what its answer says of the whole call.
 use mathlib.Core.List.{List}
-use mathlib.Core.Path.{_≡_, refl, sym, ap, _∙_}
+use mathlib.Core.Path.{_≡_, sym, ap, _∙_}
 use Rattle.refusal.specs.Answer.{Answer, accepted, andThen}
 use Rattle.refusal.specs.Order.{Step, inOrder, tried}
 use Rattle.refusal.specs.Refusal.{refusal, said}

@@ -1,17 +1,20 @@
 -- Laws of answers as one number.
-use Prim.Native.Nat.{ℕ}
+use Prim.Native.Nat.{ℕ, _/_, _%_, _^_, _<_}
 use mathlib.Core.Path.{_≡_, refl, ap, _∙_}
 use native.Mathlib.Omega.{arith}
 use Rattle.refusal.specs.Answer.{Answer}
 use Rattle.refusal.specs.Result.{Gives}
 use Rattle.refusal.specs.Refusal.{refusal, checked, said}
-use Rattle.refusal.specs.Word.{answerWord, plainWord, WordsTell}
+use Rattle.refusal.specs.Word.{word, answerWord, plainWord}
 use Rattle.refusal.specs.declared.Check.{Check}
 use Rattle.refusal.specs.declared.Check.the-variants.{Passed, Refused}
 use Rattle.refusal.specs.declared.Refusal.{Refusal}
 use Rattle.refusal.proofs.Numbered.{numbered}
 
-pub words-tell : WordsTell
+-- The three parts are read back where they are small enough.
+pub words-tell :
+    (n p q : ℕ) → n < 256 → p < 2 ^ 24 → q < 2 ^ 32 →
+    (word n p q % 256 ≡ n) × (word n p q / 2 ^ 8 % 2 ^ 24 ≡ p) × (word n p q / 2 ^ 32 ≡ q)
 words-tell n p q hn hp hq = (omega arith, omega arith, omega arith)
 
 -- A refusal's number does not depend on the result that it refuses.

@@ -1,5 +1,4 @@
 -- The number and the two positions of each refusal, as the table "Refusal numbers" has them.
-use Prim.Native.Nat.{ℕ}
 use Rattle.refusal.specs.Answer.{Answer, accepted, refused}
 use Rattle.refusal.specs.declared.Refusal.{Refusal}
 use Rattle.refusal.specs.declared.Refusal.the-variants.{

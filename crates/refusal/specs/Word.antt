@@ -1,7 +1,6 @@
 -- Answers as one number of 64 bits, for callers in C: 0 or the refusal's number in bits 0 to 7, then two small results or the
 -- refusal's positions, in bits 8 to 31 and 32 to 63.
-use Prim.Native.Nat.{ℕ, _+_, _*_, _/_, _%_, _^_, _<_}
-use mathlib.Core.Path.{_≡_}
+use Prim.Native.Nat.{ℕ, _+_, _*_, _%_, _^_}
 use Rattle.refusal.specs.Answer.{Answer, accepted, refused}
 
 abbrev pub word : ℕ → ℕ → ℕ → ℕ
@@ -15,9 +14,3 @@ answerWord first second (refused n p q) = word n p q
 -- One whose result is not told by numbers.
 abbrev pub plainWord : {A : Type 0} → Answer A → ℕ
 plainWord = answerWord (λ a. 0) (λ a. 0)
-
--- The three parts are read back.
-abbrev pub WordsTell : Type 0
-WordsTell =
-    (n p q : ℕ) → n < 256 → p < 2 ^ 24 → q < 2 ^ 32 →
-    (word n p q % 256 ≡ n) × (word n p q / 2 ^ 8 % 2 ^ 24 ≡ p) × (word n p q / 2 ^ 32 ≡ q)

@@ -49,6 +49,7 @@ pub struct Told {
     pub second: usize,
 }
 
+// A line of the paper's table.
 fn row(number: u8, first: usize, second: usize) -> Told
     ensures { λ r. ⌜ r ≡ record { number = number; first = first; second = second } ⌝ }
 {

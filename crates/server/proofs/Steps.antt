@@ -7,7 +7,7 @@ use native.Mathlib.Omega.{arith}
 use lib.Dec.{eqb}
 use lib.ListN.{length, getD}
 use borrow.Author.Tests.{eq-eqb, ne-eqb, eqb-true}
-use Rattle.search.specs.Search.{find, every}
+use Rattle.search.specs.Search.{find}
 use Rattle.search.proofs.Search.{some-fails, none-fails}
 use Rattle.refusal.specs.Answer.{accepted, refused}
 use Rattle.refusal.specs.Order.{inOrder, tried}

@@ -4,21 +4,21 @@ use refusal::Check;
 use refusal::Refusal;
 ghost use mathlib.Core.Bool.{not, _||_};
 ghost use mathlib.Core.Path.{_≡_};
-ghost use mathlib.Core.List.{List, [], _∷_};
+ghost use mathlib.Core.List.{List};
 ghost use Prim.Native.Nat.{ℕ, _+_, _<_};
-ghost use lib.Dec.{leb, eqb};
+ghost use lib.Dec.{eqb};
 ghost use lib.ListN.{length};
 ghost use Rattle.search.specs.Search.{find};
-ghost use Rattle.refusal.specs.Order.{unless, tried};
+ghost use Rattle.refusal.specs.Order.{tried};
 ghost use Rattle.refusal.specs.Refusal.{said};
 ghost use Rattle.layout.specs.Bytes.{part};
 ghost use Rattle.protocol.specs.Version.{size, owner as ownerOf, countsStrictlyBefore};
-ghost use Rattle.protocol.specs.Server.{follows as followsOf, commitSteps};
+ghost use Rattle.protocol.specs.Server.{makeSteps, follows as followsOf, commitSteps};
 ghost use Rattle.version.specs.Version.{fields, countIn};
 
 // The refusal of a number of users.
 pub(crate) fn make_check(users: u8) -> Check
-    ensures { λ r. ⌜ said r ≡ tried (unless (leb 1 users) 1 0 0 ∷ unless (leb users 16) 1 0 0 ∷ []) ⌝ }
+    ensures { λ r. ⌜ said r ≡ tried (makeSteps users) ⌝ }
 {
     if users < 1 {
         return Check::Refused(Refusal::Users);

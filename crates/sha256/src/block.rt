@@ -124,15 +124,8 @@ fn last(s: State, k: &[u32; 64], w: &[u32; 16]) -> State
     last_turn(s15, k, w, 15)
 }
 
-// A word of its four bytes. A block's 64 are there by contract; layout::u32_at would ask for their
-// end, which is felt here.
-fn word_of(a: u8, b: u8, c: u8, d: u8) -> u32
-    ensures { λ r. ⌜ r ≡ a * 2 ^ 24 + b * 2 ^ 16 + c * 2 ^ 8 + d ⌝ }
-{
-    (a as u32) * 16777216 + (b as u32) * 65536 + (c as u32) * 256 + (d as u32)
-}
-
-// The words of the block.
+// The words of the block. Its 64 bytes are there by contract: layout::u32_at would ask for their end
+// again, at 8 % more instructions.
 fn load(block: &[u8], w: &mut [u32; 16])
     requires { ⌜ length (now block) ≡ 64 ⌝ }
     requires { ⌜ length (now w) ≡ 16 ⌝ }
@@ -140,7 +133,7 @@ fn load(block: &[u8], w: &mut [u32; 16])
 {
     let mut t = 0;
     while t < 16 {
-        w[t] = word_of(
+        w[t] = layout::join(
             block[4 * t],
             block[4 * t + 1],
             block[4 * t + 2],

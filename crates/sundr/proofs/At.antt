@@ -8,7 +8,7 @@ use lib.Seq.{length-take-le, take-all, take-length}
 use borrow.Author.Tests.{eq-eqb, ne-eqb}
 use Rattle.refusal.specs.Answer.{Answer, accepted, refused, andThen}
 use Rattle.refusal.specs.Order.{inOrder}
-use Rattle.refusal.specs.Refusal.{refusal, checked}
+use Rattle.refusal.specs.Refusal.{checked}
 use Rattle.refusal.specs.Result.{Gives}
 use Rattle.refusal.specs.declared.Check.{Check}
 use Rattle.refusal.specs.declared.Check.the-variants.{Passed, Refused}

@@ -1,6 +1,6 @@
 -- Laws of a lookup into a lent buffer, by what the lookup says.
 use Prim.Native.Nat.{ℕ}
-use mathlib.Core.List.{List, [], _++_, append-nil}
+use mathlib.Core.List.{List, _++_, append-nil}
 use mathlib.Core.Path.{_≡_, refl, sym, ap, _∙_}
 use native.Mathlib.Omega.{arith}
 use lib.ListN.{length, take, drop, drop-of-length-le}
@@ -14,7 +14,7 @@ use Rattle.refusal.specs.Word.{word, answerWord, plainWord}
 use Rattle.refusal.specs.declared.Refusal.{Refusal}
 use Rattle.refusal.proofs.Numbered.{ends, keeps}
 use Rattle.refusal.proofs.Words.{word-refusal}
-use Rattle.itable.specs.Lookup.{Entry, found, absent, lookup}
+use Rattle.itable.specs.Lookup.{Entry, lookup}
 use Rattle.lookup.specs.Looked.{answer, Looks}
 use Rattle.lookup.specs.declared.Looked.{Looked}
 use Rattle.lookup.specs.declared.Outcome.{Outcome}

@@ -1,20 +1,19 @@
 -- The answers of a client's check and of a server's calls are read back: no position is above 16, and no list has more records.
 use Prim.Native.Nat.{ℕ, suc, zero, _+_, _*_, _≤_}
 use mathlib.Core.Bool.{Bool, true, false, cond}
-use mathlib.Core.List.{List, [], _∷_}
+use mathlib.Core.List.{List, []}
 use mathlib.Core.Path.{refl}
 use native.Mathlib.Omega.{arith}
 use lib.Dec.{leb, eqb}
 use lib.ListN.{length, drop, length-append, length-take}
 use Rattle.refusal.specs.Answer.{accepted, andThen}
-use Rattle.refusal.specs.Order.{unless}
 use Rattle.protocol.specs.Version.{size, owner, count, own, wellFormed}
 use Rattle.protocol.specs.List.{records}
 use Rattle.protocol.specs.Check.{check}
 use Rattle.protocol.specs.History.{Call, called}
 use Rattle.protocol.specs.Meaning.{ToSizes, Why, users, lengths, remembered, placed, unmarked, not-current, last, unordered}
 use Rattle.protocol.proofs.Meaning.{check-means}
-use Rattle.protocol.specs.Server.{make, empty, slot, held, heldOwn, heldFrom, allHeld, listSteps, listed, follows, replaced, commitSteps, commit}
+use Rattle.protocol.specs.Server.{makeSteps, make, empty, slot, held, heldOwn, heldFrom, allHeld, listSteps, listed, follows, replaced, commitSteps, commit}
 use Rattle.protocol.specs.declared.Server.{Server}
 use Rattle.sundr.specs.Server.{sizeSteps, serverIn, bytesOf, makeAt, listedAt}
 use Rattle.sundr.specs.Read.{IsRead, IsReadPlain}
@@ -45,12 +44,12 @@ check-read N u mem list marks handle room =
     (λ n p q e. why-fits N mem c n p q (check-means N mem c .1 n p q .0 e))
 
 pub make-read : (N : ℕ) (b : List ℕ) → IsReadPlain (makeAt N b)
-unfolding makeAt make sizeSteps
+unfolding makeAt make makeSteps sizeSteps
 make-read N b =
     in-order-read (λ a. 0) (λ a. 0) (sizeSteps b) (andThen (make N) (λ s. accepted (bytesOf s))) (small-fits (eqb (length b) 1569) 2 0 refl, tt)
     (λ t.
     plain-then (make N) bytesOf
-    (plain-read (unless (leb 1 N) 1 0 0 ∷ unless (leb N 16) 1 0 0 ∷ []) (empty N)
+    (plain-read (makeSteps N) (empty N)
     (small-fits (leb 1 N) 1 0 refl, (small-fits (leb N 16) 1 0 refl, tt))))
 
 -- Sixteen places hold sixteen records at most, whatever their bytes are.

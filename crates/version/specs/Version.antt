@@ -17,6 +17,7 @@ fields x = record { owner = owner x; handle = values (λ i. getD x (2 + i) 0) 0 
 abbrev pub countIn : List ℕ → ℕ → ℕ
 countIn cs v = getD cs v 0
 
--- How the counts f of users 0 to k - 1 stand to the counts g: 1 if some is below, and 2 more if some is above.
+-- How the counts f of users 0 to k - 1 stand to the counts g: 1 if some is below, and 2 more if some is above. So 0 is equal, 1 strictly
+-- before, 2 strictly after, and 3 apart. It serves contracts within the crate.
 unfoldable pub standing : (ℕ → ℕ) → (ℕ → ℕ) → ℕ → ℕ
 standing f g k = cond (every (λ v. leb (g v) (f v)) 0 k) 0 1 + cond (every (λ v. leb (f v) (g v)) 0 k) 0 2

@@ -1,12 +1,12 @@
 -- The writer's tests in their order: what they say where one fails, the ones before it having passed.
-use Prim.Native.Nat.{ℕ, _+_, _*_, _≤_, _<_}
-use mathlib.Core.Bool.{true, false, not}
+use Prim.Native.Nat.{ℕ, _*_, _≤_, _<_}
+use mathlib.Core.Bool.{not}
 use mathlib.Core.List.{List}
 use mathlib.Core.Path.{_≡_, sym, ap}
 use native.Mathlib.Omega.{arith}
 use lib.ListN.{length}
 use borrow.Author.Tests.{eq-eqb, ne-eqb, le-leb, lt-leb}
-use Rattle.search.specs.Search.{find, every}
+use Rattle.search.specs.Search.{find}
 use Rattle.search.proofs.Search.{some-fails, none-fails}
 use Rattle.refusal.specs.Answer.{accepted, refused}
 use Rattle.refusal.specs.Order.{inOrder, tried}

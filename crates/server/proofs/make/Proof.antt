@@ -1,11 +1,8 @@
 -- The test of the number by itself decides the answer: where it refuses, the empty list for one user comes back, and where it passes, the one
 -- for this number. There is no loop.
-use mathlib.Core.List.{[], _∷_}
-use lib.Dec.{leb}
 use borrow.Author.Needs.{needs}
-use Rattle.refusal.specs.Order.{unless}
 use Rattle.refusal.proofs.Stage.{gives-passed, gives-refused}
-use Rattle.protocol.specs.Server.{empty, make}
+use Rattle.protocol.specs.Server.{empty, makeSteps, make}
 use Rattle.server.proofs.make.Statement.{statement}
 use Rattle.server.proofs.make.Tie as tie
 
@@ -26,7 +23,7 @@ unfolding make
 returns c =
     let n = c .before .before .before .before .args .users in
     let k = c .before .before .before .make-check in
-    gives-refused (unless (leb 1 n) 1 0 0 ∷ unless (leb n 16) 1 0 0 ∷ []) (k .result) (k .ensures) (empty 1) (empty n) (c .empty .ensures) (c .before .enum-told2 .given .1)
+    gives-refused (makeSteps n) (k .result) (k .ensures) (empty 1) (empty n) (c .empty .ensures) (c .before .enum-told2 .given .1)
 
 empty-requires-2 : tie.Need-empty-requires-2
 empty-requires-2 c κs = search needs
@@ -36,7 +33,7 @@ unfolding make
 returns-2 c =
     let n = c .before .before .before .before .args .users in
     let k = c .before .before .before .make-check in
-    gives-passed (unless (leb 1 n) 1 0 0 ∷ unless (leb n 16) 1 0 0 ∷ []) (k .result) (k .ensures) (empty 1) (empty n) (c .empty2 .ensures) (c .before .enum-told .given .1)
+    gives-passed (makeSteps n) (k .result) (k .ensures) (empty 1) (empty n) (c .empty2 .ensures) (c .before .enum-told .given .1)
 
 pub make-spec : {M : Type 1} → statement M
 make-spec =

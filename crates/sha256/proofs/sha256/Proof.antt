@@ -4,14 +4,11 @@ use Prim.Native.Nat.{ℕ}
 use mathlib.Core.Path.{_≡_, sym, ap, _∙_}
 use mathlib.Core.List.{List}
 use borrow.Author.Needs.{needs}
-use lib.ListN.{length}
 use Rattle.refusal.specs.Answer.{Answer, accepted, refused}
 use Rattle.refusal.specs.Result.{Gives}
-use Rattle.refusal.specs.declared.Check.{Check}
 use Rattle.refusal.specs.declared.Check.the-variants.{Passed, Refused}
 use Rattle.refusal.specs.declared.Refusal.the-variants.{Length}
 use Rattle.sha256.specs.Sha256.{sha256, bytesOf}
-use Rattle.sha256.specs.Hash.{hash}
 use Rattle.sha256.proofs.Laws.{hash-long, hash-room, hash-accepted}
 use Rattle.sha256.proofs.sha256.Statement.{statement}
 use Rattle.sha256.proofs.sha256.Tie as tie

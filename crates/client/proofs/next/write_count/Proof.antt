@@ -1,52 +1,26 @@
--- Four stores fill the four bytes.
-use Rattle.layout.specs.Bytes.{bytes4}
-use Rattle.client.proofs.Written.{four-stores}
+-- The count's bytes, copied over all four.
 use borrow.Author.Needs.{needs}
+use Rattle.client.proofs.Written.{four-copied}
 use Rattle.client.proofs.next.write_count.Statement.{statement}
 use Rattle.client.proofs.next.write_count.Tie as tie
 
-cast-out : tie.Need-cast-out
-cast-out c = search needs
+u32-bytes-requires : tie.Need-u32-bytes-requires
+u32-bytes-requires c κs = search needs
 
-slice-write-out : tie.Need-slice-write-out
-slice-write-out c = search needs
+slice-aggregate-copy : tie.Need-slice-aggregate-copy
+slice-aggregate-copy c = search needs
 
-cast-out-2 : tie.Need-cast-out-2
-cast-out-2 c = search needs
-
-slice-write-out-2 : tie.Need-slice-write-out-2
-slice-write-out-2 c = search needs
-
-cast-out-3 : tie.Need-cast-out-3
-cast-out-3 c = search needs
-
-slice-write-out-3 : tie.Need-slice-write-out-3
-slice-write-out-3 c = search needs
-
-cast-out-4 : tie.Need-cast-out-4
-cast-out-4 c = search needs
-
-slice-write-out-4 : tie.Need-slice-write-out-4
-slice-write-out-4 c = search needs
+copy-requires : tie.Need-copy-requires
+copy-requires c κs = search needs
 
 same-length : tie.Need-same-length
 same-length c = search needs
 
 returns : tie.Need-returns
-unfolding bytes4
-returns c = four-stores (c .args .out .now) _ _ _ _ (c .pre)
+returns c =
+    let a = c .before .before .before .before .before .before .before in
+    four-copied (a .args .x) (a .args .out .now) _ _ (a .pre) (c .before .before .before .before .before .u32-bytes .ensures)
+    (c .before .before .copy .ensures .1)
 
 pub write-count-spec : {M : Type 1} → statement M
-write-count-spec =
-    tie.close
-    (tie.spec
-    cast-out
-    slice-write-out
-    cast-out-2
-    slice-write-out-2
-    cast-out-3
-    slice-write-out-3
-    cast-out-4
-    slice-write-out-4
-    same-length
-    returns)
+write-count-spec = tie.close (tie.spec u32-bytes-requires slice-aggregate-copy copy-requires same-length returns)

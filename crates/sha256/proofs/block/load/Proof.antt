@@ -20,41 +20,41 @@ loop-holds : tie.Need-loop-holds Inv-loop μ-loop
 unfolding values
 loop-holds c = (omega arith, c .before .pre .1, refl)
 
-mul-word-of : tie.Need-mul-word-of Inv-loop μ-loop
-mul-word-of c = search needs
+mul-join : tie.Need-mul-join Inv-loop μ-loop
+mul-join c = search needs
 
-shared-slice-read-word-of : tie.Need-shared-slice-read-word-of Inv-loop μ-loop
-shared-slice-read-word-of c = search needs
+shared-slice-read-join : tie.Need-shared-slice-read-join Inv-loop μ-loop
+shared-slice-read-join c = search needs
 
-mul-word-of-2 : tie.Need-mul-word-of-2 Inv-loop μ-loop
-mul-word-of-2 c = search needs
+mul-join-2 : tie.Need-mul-join-2 Inv-loop μ-loop
+mul-join-2 c = search needs
 
-add-word-of : tie.Need-add-word-of Inv-loop μ-loop
-add-word-of c = search needs
+add-join : tie.Need-add-join Inv-loop μ-loop
+add-join c = search needs
 
-shared-slice-read-word-of-2 : tie.Need-shared-slice-read-word-of-2 Inv-loop μ-loop
-shared-slice-read-word-of-2 c = search needs
+shared-slice-read-join-2 : tie.Need-shared-slice-read-join-2 Inv-loop μ-loop
+shared-slice-read-join-2 c = search needs
 
-mul-word-of-3 : tie.Need-mul-word-of-3 Inv-loop μ-loop
-mul-word-of-3 c = search needs
+mul-join-3 : tie.Need-mul-join-3 Inv-loop μ-loop
+mul-join-3 c = search needs
 
-add-word-of-2 : tie.Need-add-word-of-2 Inv-loop μ-loop
-add-word-of-2 c = search needs
+add-join-2 : tie.Need-add-join-2 Inv-loop μ-loop
+add-join-2 c = search needs
 
-shared-slice-read-word-of-3 : tie.Need-shared-slice-read-word-of-3 Inv-loop μ-loop
-shared-slice-read-word-of-3 c = search needs
+shared-slice-read-join-3 : tie.Need-shared-slice-read-join-3 Inv-loop μ-loop
+shared-slice-read-join-3 c = search needs
 
-mul-word-of-4 : tie.Need-mul-word-of-4 Inv-loop μ-loop
-mul-word-of-4 c = search needs
+mul-join-4 : tie.Need-mul-join-4 Inv-loop μ-loop
+mul-join-4 c = search needs
 
-add-word-of-3 : tie.Need-add-word-of-3 Inv-loop μ-loop
-add-word-of-3 c = search needs
+add-join-3 : tie.Need-add-join-3 Inv-loop μ-loop
+add-join-3 c = search needs
 
-shared-slice-read-word-of-4 : tie.Need-shared-slice-read-word-of-4 Inv-loop μ-loop
-shared-slice-read-word-of-4 c = search needs
+shared-slice-read-join-4 : tie.Need-shared-slice-read-join-4 Inv-loop μ-loop
+shared-slice-read-join-4 c = search needs
 
-word-of-requires : tie.Need-word-of-requires Inv-loop μ-loop
-word-of-requires c κs = search needs
+join-requires : tie.Need-join-requires Inv-loop μ-loop
+join-requires c κs = search needs
 
 mul-w : tie.Need-mul-w Inv-loop μ-loop
 mul-w c = search needs
@@ -73,8 +73,8 @@ unfolding four
 loop-again c =
     let l = c .before .before .before .before .before .before in (
       omega arith,
-      length-set (l .loop .w) (l .loop .t) (c .word-of .result) ∙ l .loop .inv .1,
-      filled (λ u. four (l .before .before .args .block .now) (4 * u)) (l .loop .w) (l .loop .t) (c .word-of .result) (omega arith) (l .loop .inv .2) (c .word-of .ensures),
+      length-set (l .loop .w) (l .loop .t) (c .join .result) ∙ l .loop .inv .1,
+      filled (λ u. four (l .before .before .args .block .now) (4 * u)) (l .loop .w) (l .loop .t) (c .join .result) (omega arith) (l .loop .inv .2) (c .join .ensures),
     )
 
 returns : tie.Need-returns Inv-loop μ-loop
@@ -90,18 +90,18 @@ load-spec =
     Inv-loop
     μ-loop
     loop-holds
-    mul-word-of
-    shared-slice-read-word-of
-    mul-word-of-2
-    add-word-of
-    shared-slice-read-word-of-2
-    mul-word-of-3
-    add-word-of-2
-    shared-slice-read-word-of-3
-    mul-word-of-4
-    add-word-of-3
-    shared-slice-read-word-of-4
-    word-of-requires
+    mul-join
+    shared-slice-read-join
+    mul-join-2
+    add-join
+    shared-slice-read-join-2
+    mul-join-3
+    add-join-2
+    shared-slice-read-join-3
+    mul-join-4
+    add-join-3
+    shared-slice-read-join-4
+    join-requires
     mul-w
     element-write-w
     add-t
