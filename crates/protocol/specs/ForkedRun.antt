@@ -9,7 +9,7 @@ use Rattle.refusal.specs.Answer.{accepted, refused}
 use Rattle.protocol.specs.Version.{size, count}
 use Rattle.protocol.specs.List.{records}
 use Rattle.protocol.specs.History.{Call, answer, Signed}
-use Rattle.protocol.specs.NoFork.{Premise}
+use Rattle.protocol.specs.NoJoin.{Premise}
 
 -- "N is 2; user 0 is A, 1 is B; counts in brackets; marks 1 unless said." The bytes of [a,b] of this owner, with a zero handle.
 unfoldable pub counting : ℕ → ℕ → ℕ → List ℕ
