@@ -5,7 +5,7 @@ use mathlib.Core.Path.{sym, ap, _∙_}
 use borrow.Author.Tests.{not-true, not-false}
 use borrow.Author.Needs.{needs}
 use Rattle.protocol.specs.declared.Server.{Server}
-use Rattle.protocol.proofs.Commits.{owner-below}
+use Rattle.protocol.proofs.Conditions.{owner-below}
 use Rattle.version.specs.declared.Version.{Version}
 use Rattle.server.proofs.Steps.{owner-fields, next-read, other-length, malformed, unsigned, not-next, apart, passes}
 use Rattle.server.proofs.checks.commit_check.Tie as tie

@@ -50,25 +50,35 @@ module _ {S : Type 0} {count : S → ℕ → ℕ} {honest : ℕ → Type 0} {Sig
       let ra = m .3 a l ne (omega arith) in
       (m .0, m .1, ((ra .0, ra .1, omega (arith, ra .2)), (rb .0, rb .1, omega (arith, rb .2))))
 
-  module _ {a b : ℕ} {x y : S} {s t : ℕ} (ha : honest a) (hb : honest b) (sx : Signs s a x) (sy : Signs t b y) (p : count x b < count y b) (q : count y a < count x a) where
-    never-joined : (n k : ℕ) → k < n → Joins k a x b y → ⊥
-    unfolding Joins
-    never-joined zero k l j = absurd (omega arith)
-    never-joined (suc n) k l j =
-        let fa = C .signed ha (j .0 .1) in
-        let fb = C .signed hb (j .1 .1) in
-        ⊎-elim
-        (λ le.
-        let h = le a (C .user sx) in
-        let d = from-joined (C .user sx) sy (fb .2) p q (j .1 .2) (omega (arith, h, j .0 .2)) in
-        never-joined n (d .0) (omega (arith, d .1, fb .1)) (d .2))
-        (λ le.
-        let h = le b (C .user sy) in
-        let d = from-joined (C .user sy) sx (fa .2) q p (j .0 .2) (omega (arith, h, j .1 .2)) in
-        never-joined n (d .0) (omega (arith, d .1, fa .1)) (d .2 .1, d .2 .0))
-        (C .ordered (j .0 .1) (j .1 .1))
+  module _
+      {a b : ℕ}
+      {x y : S}
+      {s t : ℕ}
+      (ha : honest a)
+      (hb : honest b)
+      (sx : Signs s a x)
+      (sy : Signs t b y)
+      (p : count x b < count y b)
+      (q : count y a < count x a)
+    where
+      never-joined : (n k : ℕ) → k < n → Joins k a x b y → ⊥
+      unfolding Joins
+      never-joined zero k l j = absurd (omega arith)
+      never-joined (suc n) k l j =
+          let fa = C .signed ha (j .0 .1) in
+          let fb = C .signed hb (j .1 .1) in
+          ⊎-elim
+          (λ le.
+          let h = le a (C .user sx) in
+          let d = from-joined (C .user sx) sy (fb .2) p q (j .1 .2) (omega (arith, h, j .0 .2)) in
+          never-joined n (d .0) (omega (arith, d .1, fb .1)) (d .2))
+          (λ le.
+          let h = le b (C .user sy) in
+          let d = from-joined (C .user sy) sx (fa .2) q p (j .0 .2) (omega (arith, h, j .1 .2)) in
+          never-joined n (d .0) (omega (arith, d .1, fa .1)) (d .2 .1, d .2 .0))
+          (C .ordered (j .0 .1) (j .1 .1))
 
-    -- No list shows x or later of a and y or later of b.
-    pub no-join : {k : ℕ} {r r′ : S} → Lists k a r → count x a ≤ count r a → Lists k b r′ → count y b ≤ count r′ b → ⊥
-    unfolding Joins
-    no-join {k} {r} {r′} lr hr lr′ hr′ = never-joined (suc k) k (omega arith) ((r, lr, hr), (r′, lr′, hr′))
+      -- No list shows x or later of a and y or later of b.
+      pub no-list-joins : {k : ℕ} {r r′ : S} → Lists k a r → count x a ≤ count r a → Lists k b r′ → count y b ≤ count r′ b → ⊥
+      unfolding Joins
+      no-list-joins {k} {r} {r′} lr hr lr′ hr′ = never-joined (suc k) k (omega arith) ((r, lr, hr), (r′, lr′, hr′))

@@ -6,31 +6,39 @@ use mathlib.Core.Path.{_≡_, ap}
 use native.Mathlib.Omega.{arith}
 use lib.ListN.{length, length-replicate}
 use Rattle.refusal.specs.Answer.{Refused}
+use Rattle.refusal.specs.Run.{Each}
+use Rattle.protocol.specs.declared.Server.{Server}
 use Rattle.protocol.specs.Version.{count}
 use Rattle.protocol.specs.Check.{lastCount}
-use Rattle.protocol.specs.Server.{heldOwn}
-use Rattle.protocol.specs.History.{Each}
+use Rattle.protocol.specs.Server.{heldOwn, allHeld}
 use Rattle.protocol.specs.Turns.{Turn, start, turn, after, Fair}
 use Rattle.protocol.specs.TwoUsers.{turnOf, twoUsers, TwoUsers}
 use Rattle.protocol.proofs.Held.{count-none, held-empty, made-for}
-use Rattle.protocol.proofs.Honest.{all-listed}
-use Rattle.protocol.proofs.HonestTurns.{ready, steady-turns, one-at-most, honest-turns}
+use Rattle.protocol.proofs.HonestNext.{Ready, all-listed}
+use Rattle.protocol.proofs.SteadyTurns.{ready, steady-turns, one-at-most}
+use Rattle.protocol.proofs.HonestTurns.{honest-turns}
 
 -- Turns of users below N, each with a handle of 32 bytes and a buffer of 1,568.
-abbrev Roomy : ℕ → List Turn → Type 0
+abbrev pub Roomy : ℕ → List Turn → Type 0
 Roomy N = Each (λ earlier t. (t .user < N) × (length (t .handle) ≡ 32) × (length (t .buffer) ≡ 1568))
 
 -- Every one of these turns is accepted.
 abbrev Accepted : ℕ → List Turn → Type 0
 Accepted N = Each (λ earlier t. Refused (turn N (after N earlier) t) → ⊥)
 
+-- Sixteen records have room in such a buffer.
+pub has-room :
+    {N u : ℕ} {s : Server} {memory : ℕ → List ℕ} {handle : List ℕ} → Ready N s memory u handle →
+    (buffer : List ℕ) → length buffer ≡ 1568 → length (allHeld s) ≤ length buffer
+has-room r buffer e = let l = all-listed r in omega (arith, l .whole, l .few, r .small)
+
 module _ (N : ℕ) (some : 1 ≤ N) (small : N ≤ 16) where
-  roomy-fair : (turns : List Turn) → Roomy N turns → Fair N turns
+  pub roomy-fair : (turns : List Turn) → Roomy N turns → Fair N turns
   roomy-fair [] f = tt
   roomy-fair (t ∷ earlier) f =
       let fair : Fair N earlier = roomy-fair earlier (f .1) in
-      let l = all-listed (ready N some small (after N earlier) t (f .0 .0) (f .0 .1) (steady-turns N some small earlier fair)) in
-      ((f .0 .0, f .0 .1, omega (arith, l .whole, l .few, f .0 .2)), fair)
+      let r = ready N small (after N earlier) t (f .0 .0) (f .0 .1) (steady-turns N some small earlier fair) in
+      ((f .0 .0, f .0 .1, has-room r (t .buffer) (f .0 .2)), fair)
 
   own-at-most : (turns : List Turn) → Fair N turns → (v : ℕ) → v < 16 → heldOwn (after N turns .server) v ≤ length turns
   unfolding after start
@@ -39,7 +47,7 @@ module _ (N : ℕ) (some : 1 ≤ N) (small : N ≤ 16) where
       omega (
         arith,
         one-at-most N (after N earlier) t
-            (ready N some small (after N earlier) t (f .0 .0) (f .0 .1) (steady-turns N some small earlier (f .1))) (f .0 .2) v,
+            (ready N small (after N earlier) t (f .0 .0) (f .0 .1) (steady-turns N some small earlier (f .1))) (f .0 .2) v,
         own-at-most earlier (f .1) v l,
       )
 
@@ -55,7 +63,7 @@ module _ (N : ℕ) (some : 1 ≤ N) (small : N ≤ 16) where
     all-accepted earlier (f .1) (omega arith),
   )
 
-roomy-turn : (u : ℕ) → u < 2 → (turnOf u .user < 2) × (length (turnOf u .handle) ≡ 32) × (length (turnOf u .buffer) ≡ 1568)
+pub roomy-turn : (u : ℕ) → u < 2 → (turnOf u .user < 2) × (length (turnOf u .handle) ≡ 32) × (length (turnOf u .buffer) ≡ 1568)
 unfolding turnOf
 roomy-turn u l = (l, length-replicate {A = ℕ} 32 0, length-replicate {A = ℕ} 1568 0)
 

@@ -19,10 +19,10 @@ use Rattle.protocol.specs.declared.Server.{Server}
 use Rattle.protocol.specs.Version.{size, owner, count, own, wellFormed, strictlyBefore}
 use Rattle.protocol.specs.Server.{slot, held, heldOwn, follows, replaced, commitSteps, commit}
 use Rattle.protocol.specs.Meaning.{WellFormed, StrictlyBefore}
-use Rattle.protocol.specs.CommitMeaning.{Holds, HoldsNone, Long, OneMore, Follows, ToFormed, ToMarked, ToOneMore, AllConditions, Why, not-long, not-formed, unmarked, not-next, unordered, Replaces, CommitMeans}
-use Rattle.protocol.proofs.Conditions.{well-formed, strictly-means}
+use Rattle.protocol.specs.CommitMeaning.{Holds, HoldsNone, Long, OneMore, Follows, ToFormed, ToMarked, ToOneMore, AllConditions}
+use Rattle.protocol.specs.CommitMeaning.{Why, not-long, not-formed, unmarked, not-next, unordered, Replaces, CommitMeans}
+use Rattle.protocol.proofs.Conditions.{well-formed, owner-below, strictly-means}
 use Rattle.protocol.proofs.Held.{held-own, held-slot, slot-same, slot-other, replaced-length}
-use Rattle.protocol.proofs.Commits.{owner-below}
 
 -- What is held of a user, and its own count, 0 for none.
 module _ (s : Server) (v : ℕ) where

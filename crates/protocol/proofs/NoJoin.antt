@@ -1,4 +1,5 @@
--- A fork is never joined, in every run: a call that accepts a list signs its answer, so the calls of a run are clients in the sense of Fork.
+-- A fork is never joined, in every run: a call that accepts a list signs its answer, so the calls of a run are clients in the sense of
+-- `Clients`.
 use Prim.Native.Nat.{ℕ, _+_, _≤_, _<_}
 use mathlib.Core.List.{List}
 use mathlib.Core.Logic.{_⊎_, inl, ⊎-swap}
@@ -7,15 +8,16 @@ use native.Mathlib.Decide.{decLt}
 use native.Mathlib.Omega.{arith}
 use lib.ListN.{length}
 use Rattle.refusal.specs.Answer.{accepted}
+use Rattle.refusal.proofs.Run.{Came, each-at, each-intro, came-shorter, came-earlier, came-once}
 use Rattle.protocol.specs.Version.{owner, count, own}
 use Rattle.protocol.specs.List.{records, recordAt, entry}
 use Rattle.protocol.specs.Meaning.{AtOrBefore}
 use Rattle.protocol.specs.History.{Call, memory, answer, Signed}
-use Rattle.protocol.specs.NoFork.{Premise, Shows, NoFork}
+use Rattle.protocol.specs.NoJoin.{Premise, Shows, NoJoin}
 use Rattle.protocol.proofs.List.{entry-counting}
 use Rattle.protocol.proofs.Accepts.{Accepts}
-use Rattle.protocol.proofs.Fork.{Clients, no-join}
-use Rattle.protocol.proofs.History.{Came, each-at, each-intro, came-shorter, came-earlier, came-once, accepted-call, signed-call, signed-once}
+use Rattle.protocol.proofs.Clients.{Clients, no-list-joins}
+use Rattle.protocol.proofs.History.{accepted-call, signed-call, signed-once}
 
 -- The call with t calls before it is one of user a that accepts, with the answer x.
 record Signs (N : ℕ) (run : List Call) (t a : ℕ) (x : List ℕ) : Type 0 where
@@ -164,12 +166,12 @@ shows-lists {earlier = earlier} {c = c} {s = s} {a = a} {x = x} m e g h =
       rw (o, h .2) at (h .3),
     )
 
-pub no-fork : NoFork
-no-fork N honest run premise a b x y ha hb sx sy p q =
+pub no-join : NoJoin
+no-join N honest run premise a b x y ha hb sx sy p q =
     let gx = signed-signs N run sx in
     let gy = signed-signs N run sy in
     each-intro _ run
     (λ earlier c m s e showsA showsB.
     let la = shows-lists m e (gx .2) showsA in
     let lb = shows-lists m e (gy .2) showsB in
-    no-join (clients N honest run premise) ha hb (gx .2) (gy .2) p q (la .1) (la .2) (lb .1) (lb .2))
+    no-list-joins (clients N honest run premise) ha hb (gx .2) (gy .2) p q (la .1) (la .2) (lb .1) (lb .2))

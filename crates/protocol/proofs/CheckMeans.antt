@@ -11,12 +11,15 @@ use Rattle.search.specs.Pairs.{everyPair, firstLow, firstHigh}
 use Rattle.search.proofs.Bool.{either-true, left-true, right-true}
 use Rattle.refusal.specs.Answer.{accepted}
 use Rattle.refusal.specs.Order.{Step, unless, unlessEach, inOrder}
-use Rattle.refusal.proofs.Means.{Means, Stage, Either, Unless, AtFirst, AtFirstPair, alike, means-accepted, means-refused, in-append, and-then, concludes, tests-mean, each-means, pairs-mean}
+use Rattle.refusal.proofs.Means.{Means, Stage, Either, Unless, AtFirst, AtFirstPair, alike, means-accepted, means-refused}
+use Rattle.refusal.proofs.Means.{in-append, and-then, concludes, tests-mean, each-means, pairs-mean}
 use Rattle.protocol.specs.Version.{size, count}
 use Rattle.protocol.specs.List.{records, wellPlaced}
 use Rattle.protocol.specs.Check.{lastCount, remembers, current, ordered, sizeSteps, formSteps, orderSteps, check}
 use Rattle.protocol.specs.History.{Call, called}
-use Rattle.protocol.specs.Meaning.{Users, Sizes, Remembered, WellPlaced, Marked, Current, NotLast, Ordered, newOf, ToSizes, ToRemembered, ToPlaced, ToMarked, ToCurrent, ToNotLast, AllConditions, Why, users, lengths, remembered, placed, unmarked, not-current, last, unordered, CheckMeans}
+use Rattle.protocol.specs.Meaning.{Users, Sizes, Remembered, WellPlaced, Marked, Current, NotLast, Ordered, newOf}
+use Rattle.protocol.specs.Meaning.{ToSizes, ToRemembered, ToPlaced, ToMarked, ToCurrent, ToNotLast, AllConditions, CheckMeans}
+use Rattle.protocol.specs.Meaning.{Why, users, lengths, remembered, placed, unmarked, not-current, last, unordered}
 use Rattle.protocol.proofs.Conditions.{remembers-means, well-placed, current-means, ordered-means}
 
 module _ (N : ℕ) (mem : List ℕ) (c : Call) where
