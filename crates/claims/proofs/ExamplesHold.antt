@@ -10,7 +10,7 @@ use Rattle.protocol.specs.Version.{counts, structure, wellFormed, countsBefore,
 use Rattle.protocol.specs.List.{entry, wellPlaced}
 use Rattle.protocol.specs.Check.{next, remembers, current, ordered, sizeSteps, formSteps, orderSteps, check}
 use Rattle.protocol.specs.ForkedRun.{counting}
-use Rattle.examples.specs.Examples.{examples, ExamplesHold}
+use Rattle.claims.specs.Examples.{examples, ExamplesHold}
 
 pub examples-hold : ExamplesHold
 unfolding
