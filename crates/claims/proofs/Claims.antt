@@ -1,15 +1,19 @@
 -- Each statement by its proof.
 use Rattle.sha256.proofs.Roots.{constants}
 use Rattle.sha256.proofs.Recurrence.{recurrence}
-use Rattle.protocol.proofs.Meaning.{check-means}
-use Rattle.protocol.proofs.New.{new-means}
-use Rattle.protocol.proofs.CommitMeaning.{commit-means}
-use Rattle.protocol.proofs.NoFork.{no-fork}
+use Rattle.protocol.proofs.CheckMeans.{check-means}
+use Rattle.protocol.proofs.NewMeans.{new-means}
+use Rattle.protocol.proofs.CommitMeans.{commit-means}
+use Rattle.protocol.proofs.NoJoin.{no-join}
+use Rattle.protocol.proofs.MarkedSuffices.{marked-suffices}
 use Rattle.protocol.proofs.ForkedRun.{forked-run}
 use Rattle.protocol.proofs.HonestTurns.{honest-turns}
-use Rattle.protocol.proofs.HonestExample.{two-users}
-use Rattle.protocol.proofs.Commits.{commits-counted}
-use Rattle.protocol.proofs.Listings.{listings-ascend}
+use Rattle.protocol.proofs.TurnsRun.{turns-run}
+use Rattle.protocol.proofs.TwoUsers.{two-users}
+use Rattle.protocol.proofs.SteadyTurns.{steady-turns}
+use Rattle.protocol.proofs.LastTurn.{last-turn}
+use Rattle.protocol.proofs.CommitsCounted.{commits-counted}
+use Rattle.protocol.proofs.ListingsAscend.{listings-ascend}
 use Rattle.itable.proofs.LookupMeaning.{lookup-means, none-only-at-root}
 use Rattle.itable.proofs.InodeMeaning.{block-check-means}
 use Rattle.itable.proofs.Means.{entry-means}
@@ -24,10 +28,14 @@ use Rattle.claims.proofs.ExamplesHold.{examples-hold}
 pub claims : Claims
 claims =
     record {
-      no-join = no-fork;
+      no-join = no-join;
+      marked-suffices = marked-suffices;
       forked-run = forked-run;
       honest-turns = honest-turns;
+      turns-run = turns-run;
       two-users = two-users;
+      steady-turns = steady-turns;
+      last-turn = last-turn;
       check-means = check-means;
       new-means = new-means;
       commit-means = commit-means;

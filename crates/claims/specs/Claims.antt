@@ -5,10 +5,13 @@ use Rattle.sha256.specs.Constants.{Constants}
 use Rattle.sha256.specs.Schedule.{Recurrence}
 use Rattle.protocol.specs.Meaning.{CheckMeans, NewMeans}
 use Rattle.protocol.specs.CommitMeaning.{CommitMeans}
-use Rattle.protocol.specs.NoFork.{NoFork}
+use Rattle.protocol.specs.NoJoin.{NoJoin, MarkedSuffices}
 use Rattle.protocol.specs.ForkedRun.{ForkedRun}
 use Rattle.protocol.specs.Turns.{HonestTurns}
+use Rattle.protocol.specs.TurnsRun.{TurnsRun}
 use Rattle.protocol.specs.TwoUsers.{TwoUsers}
+use Rattle.protocol.specs.Steady.{SteadyTurns}
+use Rattle.protocol.specs.LastTurn.{LastTurn}
 use Rattle.protocol.specs.Commits.{CommitsCounted}
 use Rattle.protocol.specs.Listings.{ListingsAscend}
 use Rattle.itable.specs.LookupMeaning.{LookupMeans, NoneOnlyAtRoot}
@@ -20,13 +23,21 @@ use Rattle.claims.specs.Examples.{ExamplesHold}
 pub record Claims : Type 1 where
   -- No fork is joined: where two honest users signed structures that each lack the other's work, no call of any run accepts a list that
   -- shows both, or later ones.
-  pub no-join : NoFork
+  pub no-join : NoJoin
+  -- The order's own premise, of every marked record of an honest user in any list, is enough for it.
+  pub marked-suffices : MarkedSuffices
   -- There is a run that meets the premise of this and forks, and the list that would join it is refused.
   pub forked-run : ForkedRun
   -- Honest users who take turns through an honest server are refused exactly at the last count.
   pub honest-turns : HonestTurns
+  -- What these turns leave in the clients' memories is what the run of their calls leaves there.
+  pub turns-run : TurnsRun
   -- There are such turns, and all are accepted.
   pub two-users : TwoUsers
+  -- After such turns each client remembers what the server holds of it, and all that is held is ordered.
+  pub steady-turns : SteadyTurns
+  -- There is such a world in which a turn is refused, and turns that lead to such a refusal.
+  pub last-turn : LastTurn
   -- A client's check accepts exactly where each condition holds, and refuses exactly for the first that does not.
   pub check-means : CheckMeans
   -- The new structure: its owner, its handle, and each of its counts.
