@@ -1,8 +1,8 @@
 -- The answer's number is that of the layer's answer, and the buffer is as the layer leaves it.
 use borrow.Author.Needs.{needs}
 use Rattle.refusal.proofs.Words.{gives-word}
-use Rattle.sundr.proofs.sundr_check.Statement.{statement}
-use Rattle.sundr.proofs.sundr_check.Tie as tie
+use Rattle.sundr.proofs.check.sundr_check.Statement.{statement}
+use Rattle.sundr.proofs.check.sundr_check.Tie as tie
 
 check-requires : tie.Need-check-requires
 check-requires c κs = search needs

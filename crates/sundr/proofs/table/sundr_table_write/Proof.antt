@@ -3,8 +3,8 @@ use Prim.Native.Nat.{ℕ}
 use mathlib.Core.Path.{ap, _∙_}
 use borrow.Author.Needs.{needs}
 use Rattle.refusal.specs.Word.{answerWord}
-use Rattle.sundr.proofs.sundr_table_write.Statement.{statement}
-use Rattle.sundr.proofs.sundr_table_write.Tie as tie
+use Rattle.sundr.proofs.table.sundr_table_write.Statement.{statement}
+use Rattle.sundr.proofs.table.sundr_table_write.Tie as tie
 
 write-requires : tie.Need-write-requires
 write-requires c κs = search needs

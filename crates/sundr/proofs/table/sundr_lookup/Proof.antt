@@ -3,8 +3,8 @@ use mathlib.Core.Path.{_≡_}
 use lib.ListN.{length}
 use Rattle.sundr.proofs.Into.{not-32, is-found, is-absent, is-refused}
 use borrow.Author.Needs.{needs}
-use Rattle.sundr.proofs.sundr_lookup.Statement.{statement}
-use Rattle.sundr.proofs.sundr_lookup.Tie as tie
+use Rattle.sundr.proofs.table.sundr_lookup.Statement.{statement}
+use Rattle.sundr.proofs.table.sundr_lookup.Tie as tie
 
 refusal-word-requires : tie.Need-refusal-word-requires
 refusal-word-requires c κs = search needs

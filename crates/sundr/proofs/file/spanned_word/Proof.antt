@@ -6,8 +6,8 @@ use Rattle.itable.specs.Inode.{Span}
 use Rattle.inode.specs.Spanned.{answerOf}
 use Rattle.inode.specs.declared.Spanned.{Spanned}
 use borrow.Author.Needs.{needs}
-use Rattle.sundr.proofs.spanned_word.Statement.{statement}
-use Rattle.sundr.proofs.spanned_word.Tie as tie
+use Rattle.sundr.proofs.file.spanned_word.Statement.{statement}
+use Rattle.sundr.proofs.file.spanned_word.Tie as tie
 
 of-variant : {l m : Spanned} → l ≡ m → answerWord (λ (a : Span). a .offset) (λ a. a .size) (answerOf m) ≡ answerWord (λ (a : Span). a .offset) (λ a. a .size) (answerOf l)
 of-variant e = sym (ap (λ v. answerWord (λ (a : Span). a .offset) (λ a. a .size) (answerOf v)) e)

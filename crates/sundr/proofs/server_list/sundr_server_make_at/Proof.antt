@@ -4,8 +4,8 @@ use mathlib.Core.Path.{refl, _∙_}
 use Rattle.refusal.proofs.Words.{gives-word}
 use Rattle.sundr.proofs.At.{makes, makes-not, not-sized}
 use borrow.Author.Needs.{needs}
-use Rattle.sundr.proofs.sundr_server_make_at.Statement.{statement}
-use Rattle.sundr.proofs.sundr_server_make_at.Tie as tie
+use Rattle.sundr.proofs.server_list.sundr_server_make_at.Statement.{statement}
+use Rattle.sundr.proofs.server_list.sundr_server_make_at.Tie as tie
 
 refusal-word-requires : tie.Need-refusal-word-requires
 refusal-word-requires c κs = search needs

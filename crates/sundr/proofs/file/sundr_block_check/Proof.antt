@@ -3,8 +3,8 @@ use mathlib.Core.Path.{ap, _∙_}
 use Rattle.refusal.specs.Word.{answerWord}
 use Rattle.itable.specs.Inode.{Span}
 use borrow.Author.Needs.{needs}
-use Rattle.sundr.proofs.sundr_block_check.Statement.{statement}
-use Rattle.sundr.proofs.sundr_block_check.Tie as tie
+use Rattle.sundr.proofs.file.sundr_block_check.Statement.{statement}
+use Rattle.sundr.proofs.file.sundr_block_check.Tie as tie
 
 block-check-requires : tie.Need-block-check-requires
 block-check-requires c κs = search needs

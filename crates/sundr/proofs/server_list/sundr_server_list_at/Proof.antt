@@ -4,8 +4,8 @@ use mathlib.Core.Path.{refl, sym, ap, _∙_}
 use Rattle.refusal.specs.Word.{answerWord}
 use Rattle.sundr.proofs.At.{listed-at, not-listed}
 use borrow.Author.Needs.{needs}
-use Rattle.sundr.proofs.sundr_server_list_at.Statement.{statement}
-use Rattle.sundr.proofs.sundr_server_list_at.Tie as tie
+use Rattle.sundr.proofs.server_list.sundr_server_list_at.Statement.{statement}
+use Rattle.sundr.proofs.server_list.sundr_server_list_at.Tie as tie
 
 refusal-word-requires : tie.Need-refusal-word-requires
 refusal-word-requires c κs = search needs

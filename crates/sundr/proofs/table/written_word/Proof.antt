@@ -6,8 +6,8 @@ use Rattle.refusal.proofs.Words.{word-refusal}
 use Rattle.writer.specs.Written.{answerOf}
 use Rattle.writer.specs.declared.Written.{Written}
 use borrow.Author.Needs.{needs}
-use Rattle.sundr.proofs.written_word.Statement.{statement}
-use Rattle.sundr.proofs.written_word.Tie as tie
+use Rattle.sundr.proofs.table.written_word.Statement.{statement}
+use Rattle.sundr.proofs.table.written_word.Tie as tie
 
 of-variant : {l m : Written} → l ≡ m → answerWord (λ (n : ℕ). n) (λ n. 0) (answerOf m) ≡ answerWord (λ (n : ℕ). n) (λ n. 0) (answerOf l)
 of-variant e = sym (ap (λ v. answerWord (λ (n : ℕ). n) (λ n. 0) (answerOf v)) e)

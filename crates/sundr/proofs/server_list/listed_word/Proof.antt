@@ -6,8 +6,8 @@ use Rattle.refusal.proofs.Words.{word-refusal}
 use Rattle.server.specs.Listed.{listedAs}
 use Rattle.server.specs.declared.Listed.{Listed}
 use borrow.Author.Needs.{needs}
-use Rattle.sundr.proofs.listed_word.Statement.{statement}
-use Rattle.sundr.proofs.listed_word.Tie as tie
+use Rattle.sundr.proofs.server_list.listed_word.Statement.{statement}
+use Rattle.sundr.proofs.server_list.listed_word.Tie as tie
 
 of-variant : {l m : Listed} → l ≡ m → answerWord (λ (n : ℕ). n) (λ n. 0) (listedAs m) ≡ answerWord (λ (n : ℕ). n) (λ n. 0) (listedAs l)
 of-variant e = sym (ap (λ v. answerWord (λ (n : ℕ). n) (λ n. 0) (listedAs v)) e)

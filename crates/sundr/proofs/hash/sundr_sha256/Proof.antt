@@ -1,8 +1,8 @@
 -- The answer's number is that of the layer's answer, and the buffer is as the layer leaves it.
 use borrow.Author.Needs.{needs}
 use Rattle.refusal.proofs.Words.{gives-word}
-use Rattle.sundr.proofs.sundr_sha256.Statement.{statement}
-use Rattle.sundr.proofs.sundr_sha256.Tie as tie
+use Rattle.sundr.proofs.hash.sundr_sha256.Statement.{statement}
+use Rattle.sundr.proofs.hash.sundr_sha256.Tie as tie
 
 sha256-requires : tie.Need-sha256-requires
 sha256-requires c κs = search needs
