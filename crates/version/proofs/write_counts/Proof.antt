@@ -7,9 +7,9 @@ use lib.ListN.{length, getD, take}
 use lib.Seq.{take-all}
 use Rattle.layout.specs.Bytes.{bytes4}
 use Rattle.protocol.specs.Version.{counts as countsOf}
-use Rattle.client.proofs.Written.{count-length, count-more}
-use Rattle.client.proofs.next.write_counts.Statement.{statement}
-use Rattle.client.proofs.next.write_counts.Tie as tie
+use Rattle.version.proofs.Written.{count-length, count-more}
+use Rattle.version.proofs.write_counts.Statement.{statement}
+use Rattle.version.proofs.write_counts.Tie as tie
 
 abbrev Inv-loop : tie.InvT-loop
 Inv-loop out₀ counts v₀ out v = (v ≤ 16) × (length out ≡ 64) × (take (4 * v) out ≡ countsOf (λ w. getD counts w 0) 0 v)

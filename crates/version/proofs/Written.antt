@@ -1,23 +1,23 @@
--- The next structure as it is written: the four bytes of a count, the counts in a row, and the whole.
+-- A record as it is written: the four bytes of a count, the counts in a row, and the whole.
 use Prim.Native.Nat.{ℕ, zero, suc, _+_, _*_, _-_, _≤_}
 use mathlib.Core.List.{List, [], _∷_, _++_, append-assoc, append-nil}
 use mathlib.Core.Path.{_≡_, sym, ap, _∙_}
 use native.Mathlib.Numerals.{add-one}
 use native.Mathlib.Omega.{arith}
-use borrow.Rule.Slice.PartMut.{midOf, putMid, same-len-mid, mid-len}
-use lib.ListN.{length, set, take, drop, length-append, length-drop, length-set, drop-of-length-le}
-use lib.Seq.{take-at, drop-at, take-length, length-take-le}
+use borrow.Rule.Slice.PartMut.{putMid, same-len-mid, mid-len}
+use lib.ListN.{length, take, drop, replicate, length-append}
+use lib.Seq.{take-at, drop-at, length-take-le}
 use Rattle.layout.specs.Bytes.{bytes4}
 use Rattle.layout.proofs.Bytes.{length-bytes4}
 use Rattle.protocol.specs.Version.{counts}
+use Rattle.version.proofs.Copied.{copied-over}
 
 -- Four bytes copied over four bytes.
 pub four-copied :
     (x : ℕ) (o b p : List ℕ) → length o ≡ 4 → b ≡ bytes4 x → p ≡ take (length b) b ++ drop (length b) o → p ≡ bytes4 x
 four-copied x o b p lo eb ep =
     let lb : length b ≡ 4 = ap length eb ∙ length-bytes4 x in
-    let z : drop (length b) o ≡ [] = drop-of-length-le o {i = length b} (omega arith) in
-    ep ∙ rw (z, append-nil, take-length b) eb
+    ep ∙ (copied-over b o (omega arith) ∙ eb)
 
 counts-last : (f : ℕ → ℕ) (i k : ℕ) → counts f i (suc k) ≡ counts f i k ++ bytes4 (f (i + k))
 unfolding counts
@@ -46,31 +46,13 @@ module _ (f : ℕ → ℕ) (out b : List ℕ) (v : ℕ) (h : 4 * v + 4 ≤ lengt
       (take-at (counts f 0 v ++ b) _ (4 * (v + 1)) (length-append (counts f 0 v) b ∙ omega (arith, l, ap length e, length-bytes4 (f v))))
 
 -- The handle h, copied behind the kind and the owner, and the counts cs behind it.
-module _ (out handle h : List ℕ) (u : ℕ) (l : length out ≡ 98) (m : length handle ≡ 32) where
-  abbrev head : List ℕ
-  head = set (set out 0 1) 1 u
+module _ (handle h : List ℕ) (u : ℕ) (m : length handle ≡ 32) (e : h ≡ take (length handle) handle ++ drop (length handle) (replicate 32 0)) where
+  copied : h ≡ handle
+  copied = e ∙ copied-over handle (replicate 32 0) (omega arith)
 
-  module _ (e : h ≡ take (length handle) handle ++ drop (length handle) (midOf 2 32 head)) where
-    part : length (midOf 2 32 head) ≡ 32
-    part = mid-len 2 34 head (simp length-set (omega arith))
+  pub copied-length : length (1 ∷ u ∷ (h ++ replicate 64 0)) ≡ 98
+  copied-length = let l : length h ≡ 32 = ap length copied ∙ m in rw (length-append h (replicate 64 0), l)
 
-    copied : h ≡ handle
-    copied =
-        e ∙ rw (take-length handle, drop-of-length-le (midOf 2 32 head) {i = length handle} (omega (arith, part)), append-nil handle)
-
-    pub copied-length : length (putMid 2 32 head h) ≡ 98
-    copied-length = same-len-mid 2 32 head h (ap length copied ∙ (m ∙ sym part)) ∙ simp length-set l
-
-    pub whole : (cs : List ℕ) → putMid 34 64 (putMid 2 32 head h) cs ≡ 1 ∷ u ∷ (handle ++ cs)
-    whole cs = ap (λ x. putMid 34 64 (putMid 2 32 head x) cs) copied ∙ behind out l
-      where
-        behind : (o : List ℕ) → length o ≡ 98 → putMid 34 64 (putMid 2 32 (set (set o 0 1) 1 u) handle) cs ≡ 1 ∷ u ∷ (handle ++ cs)
-        behind [] k = absurd (omega arith)
-        behind (x ∷ []) k = absurd (omega arith)
-        behind (x ∷ y ∷ o) k =
-            rw (
-              take-at handle (drop 32 o) 32 m,
-              drop-at handle (drop 32 o) 32 m,
-              drop-of-length-le (drop 32 o) {i = 64} (simp length-drop (omega arith)),
-              append-nil cs,
-            )
+  pub whole : (cs : List ℕ) → putMid 34 64 (1 ∷ u ∷ (h ++ replicate 64 0)) cs ≡ 1 ∷ u ∷ (handle ++ cs)
+  whole cs =
+      rw (copied, take-at handle (replicate 64 0) 32 m, drop-at handle (replicate 64 0) 32 m, append-nil cs)

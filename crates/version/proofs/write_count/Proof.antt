@@ -1,8 +1,8 @@
 -- The count's bytes, copied over all four.
 use borrow.Author.Needs.{needs}
-use Rattle.client.proofs.Written.{four-copied}
-use Rattle.client.proofs.next.write_count.Statement.{statement}
-use Rattle.client.proofs.next.write_count.Tie as tie
+use Rattle.version.proofs.Written.{four-copied}
+use Rattle.version.proofs.write_count.Statement.{statement}
+use Rattle.version.proofs.write_count.Tie as tie
 
 u32-bytes-requires : tie.Need-u32-bytes-requires
 u32-bytes-requires c κs = search needs
