@@ -5,6 +5,7 @@
 use protocol::Server;
 use refusal::Check;
 use refusal::Refusal;
+use version::SIZE;
 
 mod checks;
 mod held;
@@ -66,7 +67,7 @@ pub fn list(server: Server, out: &mut [u8]) -> Listed
     ensures leaves { λ r. ⌜ now (out .exit) ≡ left (listingOf server (now (out .entry))) (now (out .entry)) ⌝ }
 {
     let n = listing::number(&server.records);
-    if out.len() < 98 * n {
+    if out.len() < SIZE * n {
         return Listed::Refused(Refusal::NoRoom);
     }
     listing::write(&server.records, out);
@@ -79,8 +80,8 @@ fn replace(records: &mut [u8], x: &[u8], owner: usize)
     ensures { λ r. ⌜ now (records .exit) ≡ take (size * owner) (now (records .entry))
         ++ (now (x .entry) ++ drop (size * owner + size) (now (records .entry))) ⌝ }
 {
-    let at = 98 * owner;
-    bytes::copy(x, &mut records[at..]);
+    let at = SIZE * owner;
+    bytes::copy(&x[0..SIZE], &mut records[at..]);
 }
 
 // A commit where the sixteen records are lent by themselves. Writes the record's 98 bytes if it is
@@ -95,7 +96,7 @@ pub fn commit_into(users: u8, records: &mut [u8], x: &[u8], mark: u8) -> Check
     let Check::Passed = check else {
         return check;
     };
-    replace(records, x, x[1] as usize);
+    replace(records, x, version::owner(x) as usize);
     check
 }
 

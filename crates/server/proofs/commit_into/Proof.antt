@@ -2,7 +2,6 @@
 -- place. There is no loop.
 use Prim.Native.Nat.{_<_}
 use mathlib.Core.Path.{_≡_, refl, sym, ap, _∙_}
-use native.Mathlib.Omega.{arith}
 use lib.ListN.{length}
 use borrow.Author.Needs.{needs}
 use Rattle.refusal.specs.Refusal.{said}
@@ -47,20 +46,22 @@ returns-2 c =
     (replaced (list s) (a .x .now) .records) refl (c .enum-told2 .given .1))
 
 -- What the tests say of a record that passed them.
-form : (c : tie.After-shared-slice-known2) → let x = c .before .before .before .before .before .before .before .before .before .args .x .now in (length x ≡ size) × (owner x < 16)
+form :
+    (c : tie.After-enum-told) →
+    let x = c .before .before .before .before .before .before .before .args .x .now in (length x ≡ size) × (owner x < 16)
 form c =
-    let k = c .before .before .before .before in
+    let k = c .before .before in
     let s = k .before .before .before .before .before in
-    owned (list s) (s .args .x .now) (s .args .mark) (ap said (sym (c .before .before .enum-told .given .1)) ∙ k .commit-check .ensures)
+    owned (list s) (s .args .x .now) (s .args .mark) (ap said (sym (c .enum-told .given .1)) ∙ k .commit-check .ensures)
 
-shared-slice-read-replace : tie.Need-shared-slice-read-replace
-shared-slice-read-replace c = omega (arith, form c)
+owner-requires : tie.Need-owner-requires
+owner-requires c κs = search needs
 
 cast-replace : tie.Need-cast-replace
-cast-replace c = omega (arith, c .shared-slice-known2 .given 1)
+cast-replace c = search needs
 
 replace-requires : tie.Need-replace-requires
-replace-requires c κs = let f = form c in (search needs, f .0, f .1)
+replace-requires c κs = let f = form (c .before .before) in (search needs, f .0, rw (c .owner .ensures) (f .1))
 
 same-length-2 : tie.Need-same-length-2
 same-length-2 c = search needs
@@ -74,7 +75,7 @@ returns-3 c =
     let a = s .args in
     rw (by-steps (a .users) (a .records .now) (a .x .now) (a .mark) (k .before .before .if1 .left))
     (gives-passed (commitSteps (list s) (a .x .now) (a .mark)) (k .commit-check .result) (k .commit-check .ensures) (a .records .now)
-    (replaced (list s) (a .x .now) .records) (w .replace .ensures) (w .before .before .before .enum-told .given .1))
+    (replaced (list s) (a .x .now) .records) (rw (w .before .owner .ensures) at (w .replace .ensures)) (w .before .before .before .enum-told .given .1))
 
 pub commit-into-spec : {M : Type 1} → statement M
 commit-into-spec =
@@ -86,7 +87,7 @@ commit-into-spec =
     enum-told-2
     same-length
     returns-2
-    shared-slice-read-replace
+    owner-requires
     cast-replace
     replace-requires
     same-length-2
