@@ -5,4 +5,3 @@ pub mod Lengths
 pub mod Placed
 pub mod Records
 pub mod Tally
-pub mod Written

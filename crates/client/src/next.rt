@@ -1,11 +1,11 @@
 // The client's next version structure: its counts, and its bytes.
 ghost use mathlib.Core.Path.{_≡_};
 ghost use Prim.Native.Nat.{ℕ, _+_, _*_, _<_};
-ghost use lib.ListN.{length, getD};
-ghost use Rattle.layout.specs.Bytes.{bytes4};
-ghost use Rattle.protocol.specs.Version.{owner, count, counts as countsOf, structure};
+ghost use lib.ListN.{length};
+ghost use Rattle.protocol.specs.Version.{owner, count, structure};
 ghost use Rattle.protocol.specs.List.{records, recordAt};
 ghost use Rattle.protocol.specs.Check.{lastCount};
+ghost use Rattle.version.specs.Version.{countIn};
 ghost use Rattle.client.specs.Stages.{nextCounts};
 
 // The counts of the next structure. The records are gone through from the last to the first, so
@@ -28,33 +28,13 @@ pub(crate) fn counts(user: u8, memory: &[u8], list: &[u8]) -> [u32; 16]
     counts
 }
 
-// The four big-endian bytes of x.
-fn write_count(x: u32, out: &mut [u8])
-    requires { ⌜ length (now out) ≡ 4 ⌝ }
-    ensures { λ r. ⌜ now (out .exit) ≡ bytes4 x ⌝ }
-{
-    let b = layout::u32_bytes(x);
-    bytes::copy(&b, out);
-}
-
-fn write_counts(counts: [u32; 16], out: &mut [u8])
-    requires { ⌜ length (now out) ≡ 64 ⌝ }
-    ensures { λ r. ⌜ now (out .exit) ≡ countsOf (λ v. getD counts v 0) 0 16 ⌝ }
-{
-    let mut v = 0;
-    while v < 16 {
-        write_count(counts[v], &mut out[4 * v..4 * v + 4]);
-        v += 1;
-    }
-}
-
 pub(crate) fn write(user: u8, handle: &[u8], counts: [u32; 16], out: &mut [u8])
     requires { ⌜ length (now handle) ≡ 32 ⌝ }
     requires { ⌜ length (now out) ≡ 98 ⌝ }
-    ensures { λ r. ⌜ now (out .exit) ≡ structure user (now (handle .entry)) (λ v. getD counts v 0) ⌝ }
+    ensures { λ r. ⌜ now (out .exit) ≡ structure user (now (handle .entry)) (countIn counts) ⌝ }
 {
-    out[0] = 1;
-    out[1] = user;
-    bytes::copy(handle, &mut out[2..34]);
-    write_counts(counts, &mut out[34..98]);
+    let mut h = [0u8; 32];
+    bytes::copy(handle, &mut h);
+    let record = version::write(user, h, counts);
+    bytes::copy(&record, out);
 }

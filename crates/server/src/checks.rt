@@ -2,6 +2,7 @@
 use crate::held;
 use refusal::Check;
 use refusal::Refusal;
+use version::SIZE;
 ghost use mathlib.Core.Bool.{not, _||_};
 ghost use mathlib.Core.Path.{_≡_};
 ghost use mathlib.Core.List.{List};
@@ -84,7 +85,7 @@ pub(crate) fn commit_check(users: u8, records: &[u8], x: &[u8], mark: u8) -> Che
     requires { ⌜ length (now records) ≡ 1568 ⌝ }
     ensures { λ r. ⌜ said r ≡ tried (commitSteps (record { users = users; records = now (records .entry) }) (now (x .entry)) mark) ⌝ }
 {
-    if x.len() != 98 {
+    if x.len() != SIZE {
         return Check::Refused(Refusal::Length(0));
     }
     if !version::well_formed(users, x) {

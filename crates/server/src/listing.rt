@@ -1,5 +1,6 @@
 // The held records end to end: how many there are, and their bytes.
 use crate::held;
+use version::SIZE;
 ghost use mathlib.Core.Path.{_≡_};
 ghost use Prim.Native.Nat.{ℕ, _+_, _*_, _<_, _≤_};
 ghost use mathlib.Core.List.{_++_};
@@ -33,9 +34,9 @@ fn write_one(records: &[u8], v: usize, out: &mut [u8], at: usize) -> usize
     if held::own_count(records, v) == 0 {
         return at;
     }
-    let from = 98 * v;
-    bytes::copy(&records[from..from + 98], &mut out[at..]);
-    at + 98
+    let from = SIZE * v;
+    bytes::copy(&records[from..from + SIZE], &mut out[at..]);
+    at + SIZE
 }
 
 // Writes the held records to the front.

@@ -1,7 +1,7 @@
 -- The fields of a record are read from its first 98 bytes, and the orders of two structures' fields are those of their records.
 use Prim.Native.Nat.{ℕ, _+_, _*_, _-_, _<_}
 use mathlib.Core.Bool.{not, _&&_}
-use mathlib.Core.List.{List, _++_, append-nil}
+use mathlib.Core.List.{List, _++_}
 use mathlib.Core.Path.{_≡_, sym, ap, ap₂, _∙_}
 use native.Mathlib.Decide.{decLt}
 use native.Mathlib.Omega.{arith}
@@ -15,6 +15,7 @@ use Rattle.protocol.specs.Version.{size, count, countsBefore, countsStrictlyBef
 use Rattle.search.specs.Search.{every}
 use Rattle.search.proofs.Search.{every-cong}
 use Rattle.version.specs.Version.{fields, countIn}
+use Rattle.version.proofs.Copied.{copied-over}
 
 module _ (x y : List ℕ) (alike : (i : ℕ) → i < size → getD x i 0 ≡ getD y i 0) where
   count-alike : (v : ℕ) → v < 16 → count x v ≡ count y v
@@ -54,7 +55,13 @@ padded-alike x i h =
       | no g ↦
           let j : ℕ = i - length x in
           let e : i ≡ length x + j = omega arith in
-          rw (take-length, List·getD-eq-default x 0 {n = i} (omega arith), e, getD-append-add x (drop (length x) (replicate size 0)) j 0, getD-drop {A = ℕ} (length x) (replicate size 0) j 0)
+          rw (
+            take-length,
+            List·getD-eq-default x 0 {n = i} (omega arith),
+            e,
+            getD-append-add x (drop (length x) (replicate size 0)) j 0,
+            getD-drop {A = ℕ} (length x) (replicate size 0) j 0,
+          )
           (getD-replicate {A = ℕ} size (length x + j) 0 0 (omega arith))
     ]
 
@@ -70,7 +77,7 @@ pub handle-copied :
     take (length s) s ++ drop (length s) (replicate 32 0) ≡ values (λ i. getD x (2 + i) 0) 0 32
 handle-copied x s h e =
     let l : length s ≡ 32 = rw e (length-take-le 32 (drop 2 x) (simp length-drop (omega arith))) in
-    rw (take-length, l) (append-nil s ∙ (e ∙ sym (values-part x 2 32 (omega arith))))
+    copied-over s (replicate 32 0) (omega arith) ∙ (e ∙ sym (values-part x 2 32 (omega arith)))
 
 pub count-fields : (x : List ℕ) (v : ℕ) → v < 16 → countIn (fields x .counts) v ≡ count x v
 unfolding fields

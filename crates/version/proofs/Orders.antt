@@ -10,7 +10,7 @@ use lib.Dec.{leb, eqb}
 use Rattle.search.specs.Search.{every}
 use Rattle.search.proofs.Search.{every-more, every-both, every-cong}
 use Rattle.protocol.specs.Version.{countsBefore, countsStrictlyBefore}
-use Rattle.version.specs.Version.{standing}
+use Rattle.version.specs.Internal.Standing.{standing}
 
 -- What is below among all, or at one more; and what is above.
 joined : (a b p q : Bool) → bitOr (bitOr (cond a 0 1 + cond b 0 2) (cond p 0 1)) (cond q 0 2) ≡ cond (a && p) 0 1 + cond (b && q) 0 2

@@ -4,7 +4,8 @@ use Prim.Native.Nat.{_≤_, _-_}
 use mathlib.Core.Path.{_≡_, refl}
 use native.Mathlib.Omega.{arith}
 use Rattle.search.specs.Search.{find, every}
-use Rattle.version.specs.Version.{countIn, standing}
+use Rattle.version.specs.Version.{countIn}
+use Rattle.version.specs.Internal.Standing.{standing}
 use Rattle.version.proofs.Orders.{stands-more}
 use Rattle.version.proofs.standing.Statement.{statement}
 use Rattle.version.proofs.standing.Tie as tie
