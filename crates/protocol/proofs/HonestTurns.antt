@@ -12,7 +12,7 @@ use Rattle.protocol.specs.Check.{lastCount}
 use Rattle.protocol.specs.Server.{heldOwn, allHeld}
 use Rattle.protocol.specs.Turns.{Turn, World, turn, after, HonestTurns}
 use Rattle.protocol.proofs.HonestNext.{Ready}
-use Rattle.protocol.proofs.SteadyTurns.{turn-last, turn-next, ready, steady-turns}
+use Rattle.protocol.proofs.SteadyTurns.{turn-last, turn-next, fair-ready}
 
 refused-exactly :
     (N : ℕ) (w : World) (t : Turn) → Ready N (w .server) (w .memory) (t .user) (t .handle) →
@@ -31,8 +31,7 @@ refused-exactly N w t r room =
 
 pub honest-turns : HonestTurns
 honest-turns N some small [] f = tt
-honest-turns N some small (t ∷ earlier) f =
-    let w : World = after N earlier in (
-      refused-exactly N w t (ready N small w t (f .0 .0) (f .0 .1) (steady-turns N some small earlier (f .1))) (f .0 .2),
-      honest-turns N some small earlier (f .1),
-    )
+honest-turns N some small (t ∷ earlier) f = (
+  refused-exactly N (after N earlier) t (fair-ready N some small t earlier f) (f .0 .2),
+  honest-turns N some small earlier (f .1),
+)

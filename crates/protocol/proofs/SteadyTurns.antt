@@ -1,7 +1,7 @@
 -- Every world after fair turns is steady: the empty list is, an accepted turn keeps it so, and a refused turn changes nothing.
 use Prim.Native.Nat.{ℕ, _+_, _*_, _≤_, _<_}
 use mathlib.Core.Bool.{Bool, true, false, cond}
-use mathlib.Core.List.{[], _∷_, _++_}
+use mathlib.Core.List.{List, [], _∷_, _++_}
 use mathlib.Core.Logic.{inl}
 use mathlib.Core.Path.{_≡_, refl, sym, ap, _∙_}
 use native.Mathlib.Decide.{ℕ-discrete}
@@ -18,7 +18,7 @@ use Rattle.protocol.specs.List.{records}
 use Rattle.protocol.specs.Check.{lastCount}
 use Rattle.protocol.specs.Server.{empty, held, heldOwn, allHeld, listSteps, listed, listing, replaced}
 use Rattle.protocol.specs.History.{called}
-use Rattle.protocol.specs.Turns.{Turn, World, start, fetched, judged, turn, after}
+use Rattle.protocol.specs.Turns.{Turn, World, start, fetched, judged, turn, after, Fair}
 use Rattle.protocol.specs.Steady.{Steady, SteadyTurns}
 use Rattle.protocol.proofs.Held.{count-none, held-empty, empty-length, made-for}
 use Rattle.protocol.proofs.HonestNext.{Ready, made-next, all-listed, next-own}
@@ -129,3 +129,9 @@ steady-turns N some small [] f = rw (made-for N some small) (steady-empty N smal
 steady-turns N some small (t ∷ earlier) f =
     let w : World = after N earlier in
     steady-after N w t (ready N small w t (f .0 .0) (f .0 .1) (steady-turns N some small earlier (f .1))) (f .0 .2)
+
+pub fair-ready :
+    (N : ℕ) → 1 ≤ N → N ≤ 16 → (t : Turn) (earlier : List Turn) → Fair N (t ∷ earlier) →
+    Ready N (after N earlier .server) (after N earlier .memory) (t .user) (t .handle)
+fair-ready N some small t earlier f =
+    ready N small (after N earlier) t (f .0 .0) (f .0 .1) (steady-turns N some small earlier (f .1))

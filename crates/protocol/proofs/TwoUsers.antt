@@ -15,7 +15,7 @@ use Rattle.protocol.specs.Turns.{Turn, start, turn, after, Fair}
 use Rattle.protocol.specs.TwoUsers.{turnOf, twoUsers, TwoUsers}
 use Rattle.protocol.proofs.Held.{count-none, held-empty, made-for}
 use Rattle.protocol.proofs.HonestNext.{Ready, all-listed}
-use Rattle.protocol.proofs.SteadyTurns.{ready, steady-turns, one-at-most}
+use Rattle.protocol.proofs.SteadyTurns.{one-at-most, ready, steady-turns, fair-ready}
 use Rattle.protocol.proofs.HonestTurns.{honest-turns}
 
 -- Turns of users below N, each with a handle of 32 bytes and a buffer of 1,568.
@@ -46,8 +46,7 @@ module _ (N : ℕ) (some : 1 ≤ N) (small : N ≤ 16) where
   own-at-most (t ∷ earlier) f v l =
       omega (
         arith,
-        one-at-most N (after N earlier) t
-            (ready N small (after N earlier) t (f .0 .0) (f .0 .1) (steady-turns N some small earlier (f .1))) (f .0 .2) v,
+        one-at-most N (after N earlier) t (fair-ready N some small t earlier f) (f .0 .2) v,
         own-at-most earlier (f .1) v l,
       )
 
@@ -58,7 +57,7 @@ module _ (N : ℕ) (some : 1 ≤ N) (small : N ≤ 16) where
         let last : count (after N earlier .memory (t .user)) (t .user) ≡ lastCount =
         honest-turns N some small (t ∷ earlier) f .0 .0 r
         in
-        let e = ap (λ (x : List ℕ). count x (t .user)) (steady-turns N some small earlier (f .1) .remembered (t .user) (f .0 .0)) in
+        let e = ap (λ (x : List ℕ). count x (t .user)) (fair-ready N some small t earlier f .steady .remembered (t .user) (f .0 .0)) in
         omega (arith, own-at-most earlier (f .1) (t .user) (omega (arith, f .0 .0))),
     all-accepted earlier (f .1) (omega arith),
   )

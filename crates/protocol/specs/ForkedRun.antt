@@ -39,7 +39,8 @@ p5 = callOn 1 (counting 0 2 1 ++ counting 1 1 2)
 abbrev pub forkedRun : List Call
 forkedRun = p4 ∷ p3 ∷ p2 ∷ p1 ∷ []
 
--- Everybody is honest, and both forms of the premise are met. A's last structure and B's are a fork; the third call accepts a list of two entries; a fifth call on both is refused.
+-- Everybody is honest, and both forms of the premise are met. A's last structure and B's are a fork; the third call accepts a list of two
+-- entries; a fifth call on both is refused.
 pub record ForkedRun : Type 0 where
   pub premise : Premise 2 (λ v. Unit) forkedRun
   pub marked-premise : MarkedPremise 2 (λ v. Unit) forkedRun
