@@ -7,7 +7,7 @@ use mathlib.Core.Path.{_≡_, sym, ap, _∙_}
 use native.Mathlib.Omega.{arith}
 use lib.Dec.{leb, ltb, eqb}
 use borrow.Author.Tests.{eq-eqb, ne-eqb, le-leb, lt-leb, le-ltb, lt-ltb}
-use Rattle.itable.specs.Zeros.{zeros}
+use Rattle.layout.specs.Strings.{zeros}
 use Rattle.itable.specs.Lookup.{lastAtMost}
 use Rattle.itable.specs.Block.{kind, used, number, kindDue, usedDue, ascending, unusedZero, firstDue, wellFormed}
 

@@ -2,10 +2,9 @@
 // for an i-number. Each call takes any bytes; past their end stand zeros. Nothing here hashes, and
 // nothing is known of other blocks.
 ghost use mathlib.Core.Path.{_≡_};
-ghost use Prim.Native.Nat.{_-_, _<_};
+ghost use Prim.Native.Nat.{_<_};
 ghost use lib.Dec.{eqb};
 ghost use Rattle.search.specs.Search.{find};
-ghost use Rattle.itable.specs.Zeros.{zeros};
 ghost use Rattle.itable.specs.Block.{used as usedOf, number as numberOf, kindDue, usedDue, ascending as ascendingOf, firstDue, wellFormed};
 ghost use Rattle.itable.specs.Lookup.{lastAtMost};
 
@@ -63,20 +62,6 @@ fn ascending(b: &[u8]) -> bool
     true
 }
 
-// Whether the bytes from a place up to another are zero.
-pub fn zero_between(b: &[u8], from: usize, to: usize) -> bool
-    ensures { λ r. ⌜ r ≡ zeros (now (b .entry)) from (to - from) ⌝ }
-{
-    let mut x = from;
-    while x < to {
-        if layout::byte_at(b, x) != 0 {
-            return false;
-        }
-        x += 1;
-    }
-    true
-}
-
 // Whether the block's first number is that of the slot that led to it; the root has none.
 fn first_due(due: u8, first: u64, b: &[u8]) -> bool
     ensures { λ r. ⌜ r ≡ firstDue due first (now (b .entry)) ⌝ }
@@ -102,7 +87,7 @@ pub fn well_formed(due: u8, first: u64, b: &[u8]) -> bool
     if !ascending(b) {
         return false;
     }
-    if !zero_between(b, 2 + 40 * used, 642) {
+    if !layout::zero_between(b, 2 + 40 * used, 642) {
         return false;
     }
     first_due(due, first, b)

@@ -9,7 +9,8 @@ use lib.Dec.{ltb, eqb}
 use lib.ListN.{length, getD, set, take, drop}
 use lib.Seq.{getD-take, getD-drop, getD-set-same, getD-set-other}
 use borrow.Author.Count.{below-more}
-use Rattle.search.specs.Search.{find, same}
+use Rattle.search.specs.Search.{find}
+use Rattle.layout.specs.Strings.{same}
 use Rattle.layout.proofs.Parts.{part-past}
 use Rattle.protocol.specs.Version.{owner, wellFormed}
 use Rattle.protocol.specs.List.{records, recordAt, entry, wellPlaced}

@@ -43,7 +43,7 @@ fn current(user: u8, memory: &[u8], list: &[u8]) -> bool
         return memory.len() == 0;
     }
     let record = &list[98 * i..98 * i + 98];
-    search::equal(record, memory)
+    layout::equal(record, memory)
 }
 
 // The list as an array of structures.

@@ -1,7 +1,8 @@
 -- The marked examples hold, by computation on their bytes.
 use mathlib.Core.Path.{refl}
 use Rattle.refusal.specs.Order.{inOrder}
-use Rattle.search.specs.Search.{find, every, same}
+use Rattle.search.specs.Search.{find, every}
+use Rattle.layout.specs.Strings.{same}
 use Rattle.search.specs.Pairs.{everyPair, firstLow, firstHigh}
 use Rattle.layout.specs.Bytes.{four, bytes4}
 use Rattle.itable.specs.Table.{blocks}

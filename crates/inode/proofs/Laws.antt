@@ -6,13 +6,12 @@ use mathlib.Core.Path.{_≡_, sym, _∙_}
 use native.Mathlib.Omega.{arith}
 use lib.ListN.{length, getD, take, drop}
 use borrow.Author.Tests.{eq-eqb, ne-eqb, le-leb, lt-leb, lt-ltb, le-ltb}
-use Rattle.search.specs.Search.{same}
+use Rattle.layout.specs.Strings.{same, zeros}
 use Rattle.refusal.specs.Answer.{accepted, refused}
 use Rattle.refusal.specs.Order.{inOrder, tried}
 use Rattle.sha256.specs.Sha256.{sha256}
 use Rattle.sha256.specs.Hash.{isHash}
 use Rattle.sha256.proofs.Laws.{is-hash}
-use Rattle.itable.specs.Zeros.{zeros}
 use Rattle.itable.specs.Inode.{fileBlocks, blockLength, hashAt, restZero, holds, fileLength, wellFormed, inodeSteps, blockSteps}
 
 -- The hashes, by the file's length.

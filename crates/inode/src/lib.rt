@@ -44,7 +44,7 @@ fn hashes_fit(b: &[u8], at: usize, n: usize, len: usize) -> bool
     if 8192 * n < len {
         return false;
     }
-    block::zero_between(b, at + 32 * file_blocks(len), at + 32 * n)
+    layout::zero_between(b, at + 32 * file_blocks(len), at + 32 * n)
 }
 
 // Whether an inode is well formed.

@@ -11,7 +11,7 @@ use lib.ListN.{getD}
 use borrow.Author.Tests.{leb-true, ltb-true, eqb-true, eqb-false, le-leb, lt-ltb, eq-eqb}
 use Rattle.search.proofs.Bool.{bool-cases, both-true, either-true, left-true, right-true}
 use Rattle.search.proofs.Search.{every-at, every-intro}
-use Rattle.itable.specs.Zeros.{zeros}
+use Rattle.layout.specs.Strings.{zeros}
 use Rattle.itable.specs.Block.{size, kind, used, number, kindDue, usedDue, ascending, unusedZero, firstDue, wellFormed}
 use Rattle.itable.specs.LookupMeaning.{WellFormed}
 

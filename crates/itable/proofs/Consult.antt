@@ -6,8 +6,8 @@ use mathlib.Core.Path.{_≡_}
 use native.Mathlib.Omega.{arith}
 use borrow.Author.Tests.{eq-eqb, ne-eqb}
 use Rattle.layout.specs.Bytes.{part}
-use Rattle.search.specs.Search.{same}
-use Rattle.search.proofs.Search.{same-refl, same-true}
+use Rattle.layout.specs.Strings.{same}
+use Rattle.layout.proofs.Strings.{same-refl, same-true}
 use Rattle.refusal.specs.Answer.{Answer, accepted}
 use Rattle.refusal.specs.Order.{unless, inOrder}
 use Rattle.refusal.proofs.Order.{passed, unless-passed}

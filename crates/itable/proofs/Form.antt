@@ -9,7 +9,7 @@ use lib.Seq.{getD-drop}
 use borrow.Author.Tests.{lt-ltb, le-leb, eq-eqb, ne-eqb}
 use Rattle.search.proofs.Search.{every-intro}
 use Rattle.search.proofs.Bool.{left-true}
-use Rattle.itable.specs.Zeros.{zeros}
+use Rattle.layout.specs.Strings.{zeros}
 use Rattle.itable.specs.Block.{number, kindDue, usedDue, ascending, unusedZero, firstDue, wellFormed}
 use Rattle.itable.specs.Table.{Level, usedIn, slots, block}
 use Rattle.itable.proofs.Block.{Sized, block-from, number-block, kind-block, used-block}

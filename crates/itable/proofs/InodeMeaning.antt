@@ -9,13 +9,13 @@ use native.Mathlib.Omega.{arith}
 use lib.Dec.{leb, ltb, eqb}
 use lib.ListN.{length, getD}
 use borrow.Author.Tests.{leb-true, ltb-true, eqb-true, le-leb, lt-ltb, eq-eqb}
-use Rattle.search.specs.Search.{same}
+use Rattle.layout.specs.Strings.{same, zeros}
 use Rattle.search.proofs.Bool.{both-true}
-use Rattle.search.proofs.Search.{every-at, every-intro, same-true, same-refl}
+use Rattle.search.proofs.Search.{every-at, every-intro}
+use Rattle.layout.proofs.Strings.{same-true, same-refl}
 use Rattle.refusal.specs.Answer.{accepted}
 use Rattle.refusal.proofs.Means.{Means, Stage, Either, Unless, alike, means-accepted, means-refused, in-append, and-then, concludes, tests-mean, test-means}
 use Rattle.sha256.specs.Sha256.{sha256}
-use Rattle.itable.specs.Zeros.{zeros}
 use Rattle.itable.specs.Inode.{fileBlocks, blockLength, hashAt, restZero, holds, inodeSize, fileLength, wellFormed, Span, inodeSteps, blockSteps, blockCheck}
 use Rattle.itable.specs.InodeMeaning.{Sizes, Named, WellFormed, HasBlock, BlockSize, BlockNamed, ToNamed, ToFormed, ToBlock, ToBlockSize, AllConditions, Why, lengths, not-named, not-formed, no-block, block-length, block-not-named, BlockCheckMeans}
 

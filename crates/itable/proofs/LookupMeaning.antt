@@ -10,10 +10,11 @@ use lib.Dec.{leb, eqb}
 use lib.ListN.{length}
 use borrow.Author.Tests.{leb-true, leb-false, eqb-true, eqb-false, le-leb, eq-eqb}
 use Rattle.layout.specs.Bytes.{part, parts}
-use Rattle.search.specs.Search.{same}
+use Rattle.layout.specs.Strings.{same}
 use Rattle.search.proofs.Bool.{bool-cases, not-both}
 use Rattle.search.proofs.First.{not-holding}
-use Rattle.search.proofs.Search.{same-true, same-refl, same-false, differ-same, span-more}
+use Rattle.search.proofs.Search.{span-more}
+use Rattle.layout.proofs.Strings.{same-true, same-refl, same-false, differ-same}
 use Rattle.refusal.specs.Answer.{Answer, accepted, refused}
 use Rattle.refusal.specs.Order.{inOrder}
 use Rattle.refusal.proofs.Means.{Stage, Unless, tests-mean, goes-on, ends as stage-ends}

@@ -7,8 +7,8 @@ use mathlib.Core.Path.{_≡_, sym, ap, _∙_}
 use native.Mathlib.Decide.{decLe}
 use native.Mathlib.Omega.{arith}
 use Rattle.layout.specs.Bytes.{part, parts}
-use Rattle.search.specs.Search.{same}
-use Rattle.search.proofs.Search.{same-true, same-false}
+use Rattle.layout.specs.Strings.{same}
+use Rattle.layout.proofs.Strings.{same-true, same-false}
 use Rattle.search.proofs.Bool.{bool-cases}
 use Rattle.refusal.specs.Answer.{Answer, accepted, refused}
 use Rattle.refusal.proofs.Order.{passed}

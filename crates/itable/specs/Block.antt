@@ -7,7 +7,7 @@ use lib.Dec.{leb, ltb, eqb}
 use lib.ListN.{getD, take, drop}
 use Rattle.layout.specs.Bytes.{eight}
 use Rattle.search.specs.Search.{every}
-use Rattle.itable.specs.Zeros.{zeros}
+use Rattle.layout.specs.Strings.{zeros}
 
 abbrev pub size : ℕ
 size = 642

@@ -5,11 +5,10 @@ use mathlib.Core.List.{List, [], _∷_}
 use lib.Dec.{leb, ltb, eqb}
 use lib.ListN.{length, getD, take, drop}
 use Rattle.layout.specs.Bytes.{four}
-use Rattle.search.specs.Search.{same}
+use Rattle.layout.specs.Strings.{same, zeros}
 use Rattle.refusal.specs.Answer.{Answer, accepted}
 use Rattle.refusal.specs.Order.{Step, unless, inOrder}
 use Rattle.sha256.specs.Sha256.{sha256}
-use Rattle.itable.specs.Zeros.{zeros}
 
 -- "Its blocks hold 8,192 bytes each, the last one the rest (1 to 8,192)": the number of blocks of a file of this length, and the length of
 -- block k of them.

@@ -1,5 +1,4 @@
 -- In reading order.
-pub mod Zeros
 pub mod Block
 pub mod Table
 pub mod Write

@@ -5,7 +5,8 @@ use mathlib.Core.List.{List, [], _∷_}
 use lib.Dec.{leb, ltb, eqb}
 use lib.ListN.{length}
 use Rattle.layout.specs.Bytes.{part, parts}
-use Rattle.search.specs.Search.{find, same}
+use Rattle.search.specs.Search.{find}
+use Rattle.layout.specs.Strings.{same}
 use Rattle.refusal.specs.Answer.{Answer, accepted, refused}
 use Rattle.refusal.specs.Order.{Step, unless, inOrder}
 use Rattle.sha256.specs.Sha256.{sha256}

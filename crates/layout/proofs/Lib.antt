@@ -2,3 +2,4 @@ pub mod Bytes
 pub mod Eight
 pub mod Parts
 pub mod Values
+pub mod Strings

@@ -1,11 +1,11 @@
 -- Laws of the values of a function at places in a row, and of a list that is filled with them from the front.
 use Prim.Native.Nat.{ℕ, zero, suc, _+_, _≤_, _<_}
-use mathlib.Core.List.{List, [], _∷_, _++_}
+use mathlib.Core.List.{List, [], _∷_, _++_, append-nil}
 use mathlib.Core.Path.{_≡_, refl, sym, ap, ap₂, _∙_}
 use native.Mathlib.Numerals.{add-one}
 use native.Mathlib.Omega.{arith}
-use lib.ListN.{length, getD, take, drop, set, length-drop}
-use lib.Seq.{take-suc-set, length-take-le, getD-take, getD-drop, ext-getD}
+use lib.ListN.{length, getD, take, drop, set, replicate, length-drop, length-replicate, drop-of-length-le}
+use lib.Seq.{take-suc-set, take-length, length-take-le, getD-take, getD-drop, ext-getD}
 use Rattle.layout.specs.Bytes.{values}
 
 pub length-values : (f : ℕ → ℕ) (i k : ℕ) → length (values f i k) ≡ k
@@ -36,6 +36,15 @@ values-part b a n h =
     let k : i < n = omega (arith, length-values (λ i. getD b (a + i) 0) 0 n) in
     let z : 0 + i ≡ i = omega arith in
     getD-values _ 0 n i k ∙ (ap (λ j. getD b (a + j) 0) z ∙ (sym (getD-drop a b i 0) ∙ sym (getD-take n (drop a b) i 0 k))))
+
+-- The same, where they are copied over n zeros.
+pub part-copied :
+    (b s : List ℕ) (a n : ℕ) → a + n ≤ length b → s ≡ take n (drop a b) →
+    take (length s) s ++ drop (length s) (replicate n 0) ≡ values (λ i. getD b (a + i) 0) 0 n
+part-copied b s a n h e =
+    let l : length s ≡ n = rw e (length-take-le n (drop a b) (simp length-drop (omega arith))) in
+    let z : drop {A = ℕ} n (replicate n 0) ≡ [] = drop-of-length-le (replicate n 0) {i = n} (simp length-replicate (omega arith)) in
+    rw (take-length, l, z) (append-nil s ∙ (e ∙ sym (values-part b a n h)))
 
 values-last : (f : ℕ → ℕ) (i k : ℕ) → values f i (suc k) ≡ values f i k ++ (f (i + k) ∷ [])
 unfolding values

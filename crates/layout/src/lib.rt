@@ -1,9 +1,13 @@
-// The layouts' numbers, read from bytes at every place, with zeros past the end, and as bytes. What
-// these numbers and the parts of a byte string are, and the laws of both, stands in specs/ and proofs/.
+// All that is about byte strings: the layouts' numbers, read at every place with zeros past the end, and
+// as bytes; 32 bytes from a place; two strings compared; what is unused, zero. What these numbers and
+// the parts of a byte string are, and the laws of both, stands in specs/ and proofs/.
 ghost use mathlib.Core.Path.{_≡_};
+ghost use mathlib.Core.Bool.{_&&_};
 ghost use Prim.Native.Nat.{_+_, _*_, _-_, _≤_};
+ghost use lib.Dec.{eqb};
 ghost use lib.ListN.{length, getD};
-ghost use Rattle.layout.specs.Bytes.{four, eight, bytes4, bytes8};
+ghost use Rattle.layout.specs.Bytes.{four, eight, bytes4, bytes8, values};
+ghost use Rattle.layout.specs.Strings.{same, zeros};
 
 // How many bytes there are from a place on.
 fn rest(b: &[u8], at: usize) -> usize
@@ -97,4 +101,62 @@ pub fn u64_bytes(x: u64) -> [u8; 8]
     let h = u32_bytes((x / 4294967296) as u32);
     let l = u32_bytes((x % 4294967296) as u32);
     [h[0], h[1], h[2], h[3], l[0], l[1], l[2], l[3]]
+}
+
+// The 32 bytes from a place on. Where all are there, they are copied at one go.
+pub fn bytes32(b: &[u8], at: usize) -> [u8; 32]
+    ensures { λ r. ⌜ r ≡ values (λ k. getD (now (b .entry)) (at + k) 0) 0 32 ⌝ }
+{
+    let mut out = [0u8; 32];
+    if 32 <= rest(b, at) {
+        bytes::copy(&b[at..at + 32], &mut out);
+        return out;
+    }
+    let mut k = 0;
+    while k < 32 {
+        out[k] = behind(b, at, k);
+        k += 1;
+    }
+    out
+}
+
+// Whether x and y are the same byte, and all before them were.
+fn still(alike: bool, x: u8, y: u8) -> bool
+    ensures { λ r. ⌜ r ≡ (alike && eqb x y) ⌝ }
+{
+    if x != y {
+        return false;
+    }
+    alike
+}
+
+// Whether a and b hold the same bytes. No byte ends the loop, so that the compiler compares sixteen
+// at a time.
+pub fn equal(a: &[u8], b: &[u8]) -> bool
+    ensures { λ r. ⌜ r ≡ same (now (a .entry)) (now (b .entry)) ⌝ }
+{
+    if a.len() != b.len() {
+        return false;
+    }
+    let mut alike = true;
+    let mut i = 0;
+    while i < a.len() {
+        alike = still(alike, a[i], b[i]);
+        i += 1;
+    }
+    alike
+}
+
+// Whether the bytes from a place up to another are zero.
+pub fn zero_between(b: &[u8], from: usize, to: usize) -> bool
+    ensures { λ r. ⌜ r ≡ zeros (now (b .entry)) from (to - from) ⌝ }
+{
+    let mut x = from;
+    while x < to {
+        if byte_at(b, x) != 0 {
+            return false;
+        }
+        x += 1;
+    }
+    true
 }

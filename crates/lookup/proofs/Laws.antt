@@ -10,7 +10,8 @@ use native.Mathlib.Omega.{arith}
 use lib.Dec.{leb, eqb}
 use lib.ListN.{length}
 use borrow.Author.Tests.{eqb-true, eq-eqb, ne-eqb, leb-true, lt-ltb, le-ltb}
-use Rattle.search.specs.Search.{find, same}
+use Rattle.search.specs.Search.{find}
+use Rattle.layout.specs.Strings.{same}
 use Rattle.search.proofs.Bool.{both-true, bool-cases}
 use Rattle.refusal.specs.Order.{inOrder}
 use Rattle.sha256.specs.Sha256.{sha256}

@@ -3,7 +3,7 @@
 use Prim.Native.Nat.{ℕ, suc, _≤_, _<_}
 use mathlib.Core.List.{List, [], _∷_}
 use mathlib.Core.Path.{_≡_}
-use Rattle.search.specs.Search.{same}
+use Rattle.layout.specs.Strings.{same}
 use Rattle.refusal.specs.Answer.{Answer, refused}
 use Rattle.refusal.specs.Order.{unless, inOrder}
 use Rattle.sha256.specs.Sha256.{sha256}

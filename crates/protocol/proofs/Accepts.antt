@@ -5,7 +5,7 @@ use mathlib.Core.Logic.{_⊎_}
 use mathlib.Core.Path.{_≡_, refl}
 use native.Mathlib.Omega.{arith}
 use lib.ListN.{length}
-use Rattle.search.proofs.Search.{same-true}
+use Rattle.layout.proofs.Strings.{same-true}
 use Rattle.refusal.specs.Answer.{accepted}
 use Rattle.protocol.specs.Version.{size, owner, count}
 use Rattle.protocol.specs.List.{records, recordAt, entry}

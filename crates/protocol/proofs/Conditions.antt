@@ -11,7 +11,8 @@ use lib.ListN.{length}
 use borrow.Author.Tests.{ltb-true, eqb-true, eqb-false, lt-ltb, le-ltb, eq-eqb, ne-eqb, not-true}
 use Rattle.search.specs.Search.{every, find}
 use Rattle.search.proofs.Bool.{bool-cases, both-true, either-true, left-true, right-true}
-use Rattle.search.proofs.Search.{every-at, every-intro, first-failure, find-at, same-true, same-refl}
+use Rattle.search.proofs.Search.{every-at, every-intro, first-failure, find-at}
+use Rattle.layout.proofs.Strings.{same-true, same-refl}
 use Rattle.layout.proofs.Parts.{part-length}
 use Rattle.protocol.specs.Version.{size, kind, owner, count, own, wellFormed, countsStrictlyBefore, atOrBefore, strictlyBefore}
 use Rattle.protocol.specs.List.{records, recordAt, entry, wellPlaced}

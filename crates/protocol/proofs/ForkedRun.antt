@@ -6,7 +6,8 @@ use mathlib.Core.Path.{refl}
 use native.Mathlib.Nat.{eq-or-lt-of-le}
 use native.Mathlib.Omega.{arith}
 use Rattle.refusal.specs.Order.{inOrder}
-use Rattle.search.specs.Search.{find, every, same}
+use Rattle.search.specs.Search.{find, every}
+use Rattle.layout.specs.Strings.{same}
 use Rattle.search.specs.Pairs.{everyPair, firstLow, firstHigh}
 use Rattle.layout.specs.Bytes.{four, bytes4}
 use Rattle.protocol.specs.Version.{owner, counts, structure, wellFormed, countsBefore, countsStrictlyBefore}

@@ -12,7 +12,8 @@ use lib.ListN.{length, getD, replicate, length-replicate, getD-replicate}
 use borrow.Author.Tests.{eq-eqb, ne-eqb, lt-ltb, le-ltb, le-leb}
 use Rattle.search.specs.Pairs.{everyPair}
 use Rattle.search.proofs.Bool.{left-true, right-true}
-use Rattle.search.proofs.Search.{every-intro, same-refl}
+use Rattle.search.proofs.Search.{every-intro}
+use Rattle.layout.proofs.Strings.{same-refl}
 use Rattle.search.proofs.Pairs.{pairs-intro}
 use Rattle.refusal.specs.Answer.{accepted, refused}
 use Rattle.refusal.specs.Order.{inOrder}

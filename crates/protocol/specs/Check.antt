@@ -4,7 +4,7 @@ use mathlib.Core.Bool.{Bool, not, cond, _&&_, _||_}
 use mathlib.Core.List.{List, [], _∷_}
 use lib.Dec.{leb, ltb, eqb}
 use lib.ListN.{length, getD}
-use Rattle.search.specs.Search.{same}
+use Rattle.layout.specs.Strings.{same}
 use Rattle.search.specs.Pairs.{everyPair, firstLow, firstHigh}
 use Rattle.refusal.specs.Answer.{Answer, accepted}
 use Rattle.refusal.specs.Order.{Step, unless, unlessEach, inOrder}

@@ -1,17 +1,14 @@
 -- Laws of the searches: a search is fixed by what it finds, and a test over all places by each of them.
 use Prim.Native.Nat.{ℕ, zero, suc, _+_, _≤_, _<_}
 use mathlib.Core.Bool.{Bool, true, false, not, _&&_}
-use mathlib.Core.List.{List, [], _∷_}
 use mathlib.Core.Logic.{⊎-elim}
-use mathlib.Core.Path.{_≡_, refl, sym, subst, ap, ap₂, _∙_}
+use mathlib.Core.Path.{_≡_, refl, sym, subst, ap, _∙_}
 use native.Mathlib.Decide.{decLt}
 use native.Mathlib.Nat.{eq-or-lt-of-le}
 use native.Mathlib.Omega.{arith}
 use lib.Dec.{eqb}
-use lib.ListN.{length, getD}
-use lib.Seq.{ext-getD}
 use borrow.Author.Tests.{eqb-true, eqb-false, eq-eqb, ne-eqb, not-true, not-false}
-use Rattle.search.specs.Search.{find, every, same}
+use Rattle.search.specs.Search.{find, every}
 use Rattle.search.proofs.Bool.{not-both, bool-cases}
 
 -- r is the first place from i on at which p holds, or i + k.
@@ -148,44 +145,6 @@ both-by p q i k false b ea eb =
 -- Two tests at all places are both of them at each.
 pub every-both : (p q : ℕ → Bool) (i k : ℕ) → every (λ v. p v && q v) i k ≡ (every p i k && every q i k)
 every-both p q i k = both-by p q i k _ _ refl refl
-
-pub same-refl : (xs : List ℕ) → same xs xs ≡ true
-unfolding same
-same-refl [] = refl
-same-refl (x ∷ xs) = rw (eq-eqb x x refl, same) (same-refl xs)
-
-same-step : (x y : ℕ) (xs ys : List ℕ) (b : Bool) → eqb x y ≡ b → (same xs ys ≡ true → xs ≡ ys) → elim b [ true ↦ same xs ys | false ↦ false ] ≡ true → x ∷ xs ≡ y ∷ ys
-same-step x y xs ys true e ih h = ap₂ _∷_ (eqb-true x y e) (ih h)
-same-step x y xs ys false e ih h = absurd (not-both h refl)
-
-pub same-true : (xs ys : List ℕ) → same xs ys ≡ true → xs ≡ ys
-unfolding same
-same-true [] [] h = refl
-same-true [] (y ∷ ys) h = absurd (not-both h refl)
-same-true (x ∷ xs) [] h = absurd (not-both h refl)
-same-true (x ∷ xs) (y ∷ ys) h = same-step x y xs ys (eqb x y) refl (same-true xs ys) h
-
-pub same-false : (xs ys : List ℕ) → same xs ys ≡ false → xs ≡ ys → ⊥
-same-false xs ys h e = not-both (same-refl xs) (rw (← e) at h)
-
-pub differ-same : (xs ys : List ℕ) → (xs ≡ ys → ⊥) → same xs ys ≡ false
-differ-same xs ys n = ⊎-elim (λ t. absurd (n (same-true xs ys t))) (λ f. f) (bool-cases (same xs ys))
-
-same-by :
-    (xs ys : List ℕ) (b : Bool) → length xs ≡ length ys → every (λ i. eqb (getD xs i 0) (getD ys i 0)) 0 (length xs) ≡ b →
-    b ≡ same xs ys
-same-by xs ys true l e =
-    let q : xs ≡ ys = ext-getD 0 xs ys l (λ i h. eqb-true (getD xs i 0) (getD ys i 0) (every-at (λ i. eqb (getD xs i 0) (getD ys i 0)) 0 (length xs) e i (omega arith) (omega arith))) in
-    sym (ap (same xs) (sym q) ∙ same-refl xs)
-same-by xs ys false l e =
-    let f = first-failure (λ i. eqb (getD xs i 0) (getD ys i 0)) 0 (length xs) e in
-    let i : ℕ = find (λ i. not (eqb (getD xs i 0) (getD ys i 0))) 0 (length xs) in
-    sym (differ-same xs ys (λ q. eqb-false (getD xs i 0) (getD ys i 0) (f .1) (ap (λ zs. getD zs i 0) q)))
-
--- Strings of one length are equal if each byte is.
-pub same-every :
-    (xs ys : List ℕ) → length xs ≡ length ys → every (λ i. eqb (getD xs i 0) (getD ys i 0)) 0 (length xs) ≡ same xs ys
-same-every xs ys l = same-by xs ys _ l refl
 
 -- What holds of each place from a up to i, and of i, holds up to i + 1.
 pub span-more : {P : ℕ → Type 0} (a i : ℕ) → ((m : ℕ) → a ≤ m → m < i → P m) → P i → (m : ℕ) → a ≤ m → m < i + 1 → P m

@@ -4,7 +4,7 @@ use mathlib.Core.Bool.{Bool, _&&_}
 use mathlib.Core.List.{List, [], _∷_}
 use lib.Dec.{leb, eqb}
 use lib.ListN.{length}
-use Rattle.search.specs.Search.{same}
+use Rattle.layout.specs.Strings.{same}
 use Rattle.refusal.specs.Answer.{Answer, accepted}
 use Rattle.refusal.specs.Order.{inOrder, unless}
 use Rattle.sha256.specs.Sha256.{sha256}

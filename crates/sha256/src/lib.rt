@@ -127,5 +127,5 @@ pub fn is_hash(message: &[u8], wanted: &[u8]) -> bool
     let Check::Passed = c else {
         return false;
     };
-    search::equal(&digest, wanted)
+    layout::equal(&digest, wanted)
 }

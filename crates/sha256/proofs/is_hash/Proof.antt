@@ -10,7 +10,7 @@ use borrow.Author.Needs.{needs}
 use borrow.Author.Tests.{leb-true}
 use lib.Dec.{leb}
 use lib.ListN.{length}
-use Rattle.search.specs.Search.{same}
+use Rattle.layout.specs.Strings.{same}
 use Rattle.search.proofs.Bool.{bool-cases}
 use Rattle.refusal.specs.Answer.{accepted}
 use Rattle.refusal.specs.Refusal.{refusal, checked}

@@ -6,10 +6,11 @@ use mathlib.Core.Path.{_≡_, refl, sym, ap, _∙_}
 use native.Mathlib.Omega.{arith}
 use lib.Dec.{eqb}
 use lib.ListN.{length, getD}
 use Rattle.search.specs.Search.{find, every}
-use Rattle.search.proofs.Search.{differ-same, every-more, same-every}
-use Rattle.search.proofs.equal.Statement.{statement}
-use Rattle.search.proofs.equal.Tie as tie
+use Rattle.search.proofs.Search.{every-more}
+use Rattle.layout.proofs.Strings.{differ-same, same-every}
+use Rattle.layout.proofs.equal.Statement.{statement}
+use Rattle.layout.proofs.equal.Tie as tie
 
 abbrev Inv-loop : tie.InvT-loop
 Inv-loop a b alike₀ i₀ alike i = (i ≤ length a) × (length a ≡ length b) × (alike ≡ every (λ j. eqb (getD a j 0) (getD b j 0)) 0 i)

@@ -8,9 +8,9 @@ use lib.Dec.{eqb}
 use lib.ListN.{getD}
 use borrow.Author.Tests.{eq-eqb, ne-eqb}
 use Rattle.search.proofs.Search.{every-intro, every-fails, span-more}
-use Rattle.itable.specs.Zeros.{zeros}
-use Rattle.block.proofs.zero_between.Statement.{statement}
-use Rattle.block.proofs.zero_between.Tie as tie
+use Rattle.layout.specs.Strings.{zeros}
+use Rattle.layout.proofs.zero_between.Statement.{statement}
+use Rattle.layout.proofs.zero_between.Tie as tie
 
 abbrev Inv-loop : tie.InvT-loop
 Inv-loop b from to x₀ x = (from ≤ x) × ((m : ℕ) → from ≤ m → m < x → eqb (getD b m 0) 0 ≡ true)

@@ -2,8 +2,8 @@
 use mathlib.Core.Bool.{Bool, true, false, _&&_}
 use mathlib.Core.Path.{_≡_, refl}
 use borrow.Author.Tests.{eq-eqb, ne-eqb}
-use Rattle.search.proofs.still.Statement.{statement}
-use Rattle.search.proofs.still.Tie as tie
+use Rattle.layout.proofs.still.Statement.{statement}
+use Rattle.layout.proofs.still.Tie as tie
 
 lost : (a b : Bool) → b ≡ false → false ≡ (a && b)
 lost true b e = rw e
