@@ -2,13 +2,13 @@
 
 use crate::ffi::{sundr_lookup, Answer};
 use crate::guarded::Guarded;
-use crate::itable::{handles, numbers, written, NUMBERINGS};
+use crate::itable::NUMBERINGS;
 use crate::paths::{some_number, Path, Request};
 use crate::random::Random;
 use crate::reference::itable::{lookup, BLOCK, LEAF, MOST_FILES};
-use crate::reference::sha256::digest;
 use crate::reference::Refusal;
 use crate::runner::{equal, hex, Outcome, Runner};
+use crate::tables::{refusal_of, wrong_paths, Table, CHANGES};
 use std::collections::BTreeSet;
 
 /// How often each answer was due, by the blocks of the path and the position.
@@ -114,59 +114,6 @@ fn judge_as(due: Due, request: &Request, seen: &mut Seen, random: &mut Random) -
     equal("the second implementation's answer", call(request, seen, random)?, due)
 }
 
-/// A table, its blocks as the library wrote them, and its i-handle.
-struct Table {
-    files: Vec<u64>,
-    handles: Vec<u8>,
-    blocks: Vec<u8>,
-    root: Vec<u8>,
-}
-
-impl Table {
-    fn of(files: Vec<u64>, handles: Vec<u8>, random: &mut Random) -> Result<Table, String> {
-        let blocks = written(&files, &handles, random)?;
-        let root = digest(&blocks[blocks.len() - BLOCK..]).to_vec();
-        Ok(Table { files, handles, blocks, root })
-    }
-
-    fn any(numbering: usize, count: usize, random: &mut Random) -> Result<Table, String> {
-        Table::of(numbers(numbering, count, random), handles(count, random), random)
-    }
-
-    fn block(&self, place: usize) -> &[u8] {
-        &self.blocks[place * BLOCK..][..BLOCK]
-    }
-
-    /// How many blocks there are.
-    fn all(&self) -> usize {
-        self.blocks.len() / BLOCK
-    }
-
-    /// The places of the blocks that this number leads along: root, block over leaves, leaf.
-    fn places(&self, number: u64) -> Vec<usize> {
-        let leaves = self.files.len().div_ceil(16).max(1);
-        // The last file at or below the number is in the leaf that answers.
-        let file = self.files.partition_point(|&file| file <= number).checked_sub(1);
-        match (self.all() - leaves, file) {
-            (0, _) | (_, None) => vec![self.all() - 1],
-            (1, Some(file)) => vec![self.all() - 1, file / 16],
-            (_, Some(file)) => vec![self.all() - 1, leaves + file / 256, file / 16],
-        }
-    }
-
-    /// The lookup of a number along the blocks that it leads along.
-    fn request(&self, number: u64) -> Request {
-        let path = self.places(number).iter().flat_map(|&place| self.block(place).to_vec()).collect();
-        Request { handle: self.root.clone(), number, path, out_len: 32 }
-    }
-
-    /// What the table says of a number.
-    fn says(&self, number: u64) -> Option<[u8; 32]> {
-        let file = self.files.binary_search(&number).ok()?;
-        Some(self.handles[32 * file..][..32].try_into().unwrap())
-    }
-}
-
 /// Blocks that the library wrote answer as the table does: for each file, both numbers beside it, and numbers at
 /// the ends and in the middle.
 fn written_tables() -> Outcome {
@@ -181,7 +128,8 @@ fn written_tables() -> Outcome {
                 asked.extend([file.saturating_sub(1), file, file.saturating_add(1)]);
             }
             for number in asked {
-                judge_as(Ok(table.says(number)), &table.request(number), &mut seen, &mut random)?;
+                let request = table.request(number, &table.path(number));
+                judge_as(Ok(table.says(number)), &request, &mut seen, &mut random)?;
             }
             files += table.files.len();
         }
@@ -192,52 +140,6 @@ fn written_tables() -> Outcome {
         [files, seen.found.iter().sum(), absent],
         [59_262, 59_262, 58_742],
     )
-}
-
-/// Blocks, root first.
-type Blocks<'a> = Vec<&'a [u8]>;
-
-/// How a path of a table's blocks can be wrong.
-const CHANGES: [&str; 5] =
-    ["another block", "another table's block", "two blocks swapped", "a block left out", "one more"];
-
-/// Each path that one change makes of a number's right one, by the change: each other block of the table at each place,
-/// the other table's block of that place, each two in each other's place, each left out, and each block of the table
-/// put in at each place.
-fn wrong_paths<'a>(right: &Blocks<'a>, places: &[usize], table: &'a Table, other: &'a Table) -> [Vec<Blocks<'a>>; 5] {
-    let mut wrong: [Vec<Blocks>; 5] = Default::default();
-    let mut add = |change: usize, alter: &dyn Fn(&mut Blocks<'a>)| {
-        let mut path = right.clone();
-        alter(&mut path);
-        wrong[change].push(path);
-    };
-    for (depth, &place) in places.iter().enumerate() {
-        for block in (0..table.all()).filter(|&block| block != place) {
-            add(0, &|path| path[depth] = table.block(block));
-        }
-        add(1, &|path| path[depth] = other.block(place));
-        for second in depth + 1..places.len() {
-            add(2, &|path| path.swap(depth, second));
-        }
-        add(3, &|path| path.retain(|block| *block != right[depth]));
-    }
-    for depth in 0..=places.len() {
-        for block in 0..table.all() {
-            add(4, &|path| path.insert(depth, table.block(block)));
-        }
-    }
-    wrong
-}
-
-/// What a path is refused with that is not the right one: its first block that is not right has another hash, or is
-/// missing, or is left over.
-fn refusal_of(path: &Blocks, right: &Blocks) -> Refusal {
-    let alike = path.iter().zip(right).take_while(|(block, due)| block == due).count();
-    match path.len() {
-        1..=3 if alike < path.len().min(right.len()) => Refusal(8, alike as u32, 0),
-        1..=3 => Refusal(9, alike as u32, 0),
-        _ => Refusal(2, 0, 0),
-    }
 }
 
 /// Written blocks at wrong places: every path differs from the right one, and is refused for that.
@@ -253,14 +155,13 @@ fn wrong_blocks() -> Outcome {
         asked.extend((0..4).map(|_| table.files[random.below(count)]));
         asked.extend((0..4).map(|_| some_number(&mut random)));
         for number in asked {
-            let places = table.places(number);
-            let right: Blocks = places.iter().map(|&place| table.block(place)).collect();
-            for (change, paths) in wrong_paths(&right, &places, &table, &other).iter().enumerate() {
+            let right = table.path(number);
+            for (change, paths) in wrong_paths(number, &table, &other).iter().enumerate() {
                 for path in paths {
                     if *path == right {
                         return Err(format!("{} left the path as it was", CHANGES[change]));
                     }
-                    let request = Request { handle: table.root.clone(), number, path: path.concat(), out_len: 32 };
+                    let request = table.request(number, path);
                     judge_as(Err(refusal_of(path, &right)), &request, &mut seen, &mut random)?;
                     made[change] += 1;
                 }
