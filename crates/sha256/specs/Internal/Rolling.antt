@@ -1,5 +1,4 @@
--- The schedule as the code keeps it: a circular queue of sixteen words, as 6.1.3 has it for SHA-1. It serves the contracts within the
--- crate; what the calls promise is in Sha256 and Hash, and does not mention it.
+-- The schedule as the code keeps it: a circular queue of sixteen words, as 6.1.3 has it for SHA-1.
 use Prim.Native.Nat.{ℕ, _+_, _%_, _<_, _≤_}
 use mathlib.Core.Path.{_≡_}
 use mathlib.Core.List.{List}
