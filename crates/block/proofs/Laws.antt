@@ -34,13 +34,13 @@ module _ (due : ℕ) (b : List ℕ) (u : ℕ) (eu : u ≡ used b) where
   unfolding usedDue
   some-used l p = rw (sym eu, le-leb u 16 l, le-leb 1 u p)
 
-  pub empty-child : u ≤ 0 → (due ≡ 0 → ⊥) → false ≡ usedDue due b
+  pub empty-child : u ≤ 0 → 0 < due → false ≡ usedDue due b
   unfolding usedDue
-  empty-child z n = rw (sym eu, le-leb u 16 (omega arith), lt-leb 1 u (omega arith), ne-eqb due 0 n)
+  empty-child z l = rw (sym eu, le-leb u 16 (omega arith), lt-leb 1 u (omega arith), ne-eqb due 0 (λ e. omega arith))
 
-  pub empty-root : u ≤ 0 → due ≡ 0 → (k : ℕ) → k ≡ kind b → eqb k 3 ≡ usedDue due b
+  pub empty-root : u ≤ 0 → due ≤ 0 → (k : ℕ) → k ≡ kind b → eqb k 3 ≡ usedDue due b
   unfolding usedDue
-  empty-root z r k ek = rw (sym eu, le-leb u 16 (omega arith), lt-leb 1 u (omega arith), eq-eqb due 0 r, sym ek)
+  empty-root z l k ek = rw (sym eu, le-leb u 16 (omega arith), lt-leb 1 u (omega arith), eq-eqb due 0 (omega arith), sym ek)
 
 module _ (due first : ℕ) (b : List ℕ) where
   pub root-first : due ≡ 0 → true ≡ firstDue due first b

@@ -106,7 +106,7 @@ fn used_due(due: u8, b: &[u8]) -> bool
     if 0 < used {
         return true;
     }
-    if due != 0 {
+    if 0 < due {
         return false;
     }
     kind(b) == LEAF
@@ -117,11 +117,14 @@ fn ascending(b: &[u8]) -> bool
     ensures { λ r. ⌜ r ≡ ascendingOf (now (b .entry)) ⌝ }
 {
     let used = used(b);
+    let mut last = number(b, 0);
     let mut j = 0;
     while j + 1 < used {
-        if number(b, j + 1) <= number(b, j) {
+        let next = number(b, j + 1);
+        if next <= last {
             return false;
         }
+        last = next;
         j += 1;
     }
     true
