@@ -1,11 +1,11 @@
--- Text behind text: what is appended in two steps is appended in one.
-use Prim.Native.Nat.{ℕ, zero, suc, _+_, _-_, _≤_, _<_}
+-- What is appended in two steps is appended in one, so a line is the concatenation of its parts.
+use Prim.Native.Nat.{ℕ, _+_, _≤_, _<_}
 use mathlib.Core.List.{List, [], _∷_, _++_, append-assoc, append-nil}
-use mathlib.Core.Path.{_≡_, refl, sym, ap, _∙_}
+use mathlib.Core.Path.{_≡_, refl, sym, _∙_}
 use native.Mathlib.Numerals.{add-one}
 use native.Mathlib.Omega.{arith}
-use lib.ListN.{length, getD, take, drop, length-append, length-take, length-drop, drop-of-length-le}
-use lib.Seq.{take-at, take-all, take-length, take-suc, length-take-le}
+use lib.ListN.{length, getD, take, drop, length-append, length-take, length-drop}
+use lib.Seq.{take-at, take-length, take-suc, length-take-le}
 use Rattle.report.specs.Printed.{spaced, allSpaced}
 use Rattle.report.specs.Internal.Text.{Appended}
 

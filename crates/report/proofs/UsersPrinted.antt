@@ -1,5 +1,4 @@
 -- Such an input is judged `refuse 1 0 0`, and that line is computed.
-use mathlib.Core.Path.{refl}
 use Rattle.search.specs.Search.{find}
 use Rattle.input.proofs.UsersRefused.{users-refused}
 use Rattle.report.specs.Decimal.{width, decimal}

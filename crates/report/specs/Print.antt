@@ -1,4 +1,5 @@
--- The output written to a lent buffer, as a listing is: to its front, "keeps the bytes after them, and gives their number; its only refusal is 12."
+-- The output written to a lent buffer, in the manner of the server's listing: to its front, the bytes after it are kept, and its number of
+-- bytes is given. "12: the buffer is shorter than what is to be written" is the only refusal.
 use Prim.Native.Nat.{ℕ}
 use mathlib.Core.List.{List, [], _∷_, _++_}
 use lib.Dec.{leb}

@@ -34,7 +34,7 @@ of = 32 ∷ 111 ∷ 102 ∷ []
 unfoldable pub deskLine : ℕ → ℕ → List ℕ
 deskLine u N = desk ++ spaced u ++ of ++ spaced N ++ newline
 
--- "and `accept` with the new counts of users 0 to N-1,"
+-- "and `accept` with the new counts of users 0 to N-1," of the sixteen that the judgement has; where N is above 16 nothing is accepted.
 abbrev pub accept : List ℕ
 accept = 97 ∷ 99 ∷ 99 ∷ 101 ∷ 112 ∷ 116 ∷ []
 

@@ -3,9 +3,8 @@ use crate::text;
 use input::Outcome;
 use input::Report;
 use refusal::Refusal;
-ghost use Prim.Native.Nat.{_+_, _≤_};
-ghost use mathlib.Core.Path.{_≡_};
-ghost use lib.ListN.{length, take};
+ghost use Prim.Native.Nat.{ℕ, _+_, _≤_};
+ghost use lib.ListN.{length};
 ghost use Rattle.refusal.specs.Refusal.{refusal as refusalOf};
 ghost use Rattle.input.specs.Report.{told};
 ghost use Rattle.report.specs.Printed.{deskLine, answerLine, acceptLine, lines};
@@ -36,9 +35,9 @@ fn accept(users: u8, counts: [u32; 16], out: &mut [u8], at: usize) -> usize
 }
 
 // The second line where it refuses, `refuse`, the number and both positions.
-fn refuse(refusal: Refusal, users: u8, out: &mut [u8], at: usize) -> usize
+fn refuse(refusal: Refusal, out: &mut [u8], at: usize) -> usize
     requires { ⌜ at + 70 ≤ length (now out) ⌝ }
-    ensures { λ r. ⌜ Appended (now (out .entry)) at (answerLine users (refusalOf refusal)) (now (out .exit)) r ⌝ }
+    ensures { λ r. ⌜ ((N : ℕ) → Appended (now (out .entry)) at (answerLine N (refusalOf refusal)) (now (out .exit)) r) ⌝ }
     ensures { λ r. ⌜ r ≤ at + 70 ⌝ }
 {
     let told = refusal::tell(refusal);
@@ -65,7 +64,7 @@ pub(crate) fn report(report: Report, out: &mut [u8]) -> usize
         }
         Outcome::Refused(refusal) => {
             let at = desk(report.user, report.users, out);
-            refuse(refusal, report.users, out, at)
+            refuse(refusal, out, at)
         }
     }
 }

@@ -1,6 +1,5 @@
 // Text and numbers, each written to a buffer behind what it already holds.
 ghost use Prim.Native.Nat.{_+_, _≤_};
-ghost use mathlib.Core.Path.{_≡_};
 ghost use lib.ListN.{length, take};
 ghost use Rattle.report.specs.Printed.{spaced, allSpaced};
 ghost use Rattle.report.specs.Internal.Text.{Appended};

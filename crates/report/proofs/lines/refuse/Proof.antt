@@ -49,7 +49,8 @@ returns c =
     let p = second .number2 .ensures in
     let q = third .number3 .ensures in
     let end = c .before .before .put2 .ensures in (
-      rw (same-row (word .before .before .before .before .before .args .refusal) _ _ _ (word .before .before .before .tell .ensures))
+      λ N.
+          rw (same-row (word .before .before .before .before .before .args .refusal) _ _ _ (word .before .before .before .tell .ensures))
           (appended-more (appended-more (appended-more (appended-more (word .put .ensures) (n .0)) (p .0)) (q .0)) end),
       omega (arith, end .ends, q .1, p .1, n .1, word .put .ensures .ends),
     )

@@ -58,7 +58,7 @@ returns-3 c =
     let desk = c .before .before .before .before .before .before in
     let first = desk .desk2 .ensures in
     let second = c .before .before .refuse .ensures in
-    (rw (desk .before .before .before .outcome .given .1) (appended-more (first .0) (second .0)), omega (arith, first .1, second .1))
+    (rw (desk .before .before .before .outcome .given .1) (appended-more (first .0) (second .0 _)), omega (arith, first .1, second .1))
 
 pub report-spec : {M : Type 1} → statement M
 report-spec =
