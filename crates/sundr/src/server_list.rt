@@ -47,10 +47,10 @@ pub extern "C" fn sundr_server_list_at(server: &[u8], out: &mut [u8]) -> u64
     ensures answer { λ r. ⌜ r ≡ answerWord (λ n. n) (λ n. 0) (listedAt (now (server .entry)) (length (now (out .entry)))) ⌝ }
     ensures buffer { λ r. ⌜ now (out .exit) ≡ left (listingAt (now (server .entry)) (now (out .entry))) (now (out .entry)) ⌝ }
 {
-    if server.len() != 1569 {
-        return refusal::refusal_word(Refusal::Length(0));
+    if server.len() == 1569 {
+        return listed_word(server::list(server_bytes::read(server), out));
     }
-    listed_word(server::list(server_bytes::read(server), out))
+    refusal::refusal_word(Refusal::Length(0))
 }
 
 // A commit to a list whose records are lent beside its number of users: the answer as a number.

@@ -14,8 +14,7 @@ same-length : tie.Need-same-length
 same-length c = search needs
 
 returns : tie.Need-returns
-returns c =
-    (gives-word (c .before .before .before .check .ensures) (c .check-word .ensures), c .before .before .before .check .ensures .leaves)
+returns c = let g = c .before .before .before .check .ensures in (gives-word g (c .check-word .ensures), g .leaves)
 
 pub sundr-check-spec : {M : Type 1} → statement M
 sundr-check-spec = tie.close (tie.spec check-requires check-word-requires same-length returns)

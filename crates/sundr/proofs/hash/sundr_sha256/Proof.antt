@@ -14,8 +14,7 @@ same-length : tie.Need-same-length
 same-length c = search needs
 
 returns : tie.Need-returns
-returns c =
-    (gives-word (c .before .before .before .sha256 .ensures) (c .check-word .ensures), c .before .before .before .sha256 .ensures .leaves)
+returns c = let g = c .before .before .before .sha256 .ensures in (gives-word g (c .check-word .ensures), g .leaves)
 
 pub sundr-sha256-spec : {M : Type 1} → statement M
 sundr-sha256-spec = tie.close (tie.spec sha256-requires check-word-requires same-length returns)

@@ -7,15 +7,6 @@ use borrow.Author.Needs.{needs}
 use Rattle.sundr.proofs.server_list.sundr_server_list_at.Statement.{statement}
 use Rattle.sundr.proofs.server_list.sundr_server_list_at.Tie as tie
 
-refusal-word-requires : tie.Need-refusal-word-requires
-refusal-word-requires c κs = search needs
-
-returns : tie.Need-returns
-returns c =
-    let a = c .before .before .before .before .args in
-    let n = not-listed (a .server .now) (a .out .now) (c .before .if1 .taken) in
-    rw (n .0, n .1) (c .refusal-word .ensures, refl)
-
 read-requires : tie.Need-read-requires
 read-requires c κs = search needs
 
@@ -28,22 +19,34 @@ listed-word-requires c κs = search needs
 same-length : tie.Need-same-length
 same-length c = search needs
 
+returns : tie.Need-returns
+returns c =
+    let l = c .before .before .before in
+    let k = l .before .before in
+    let i = k .before in
+    let a = i .before .before .before .args in
+    let n = listed-at (a .server .now) (a .out .now) (i .if1 .taken) in
+    let g = l .list .ensures in
+    rw (n .0, n .1, sym (k .read .ensures)) (c .listed-word .ensures ∙ ap (answerWord (λ (n : ℕ). n) (λ n. 0)) (g .0), g .1)
+
+refusal-word-requires : tie.Need-refusal-word-requires
+refusal-word-requires c κs = search needs
+
 returns-2 : tie.Need-returns-2
 returns-2 c =
-    let a = c .before .before .before .before .before .before .before .before .before .args in
-    let n = listed-at (a .server .now) (a .out .now) (c .before .before .before .before .before .before .if1 .left) in
-    let s = c .before .before .before .before .before .read .ensures in
-    let l = c .before .before .before .list .ensures in
-    rw (n .0, n .1, sym s) (c .listed-word .ensures ∙ ap (answerWord (λ (n : ℕ). n) (λ n. 0)) (l .0), l .1)
+    let i = c .before in
+    let a = i .before .before .before .args in
+    let n = not-listed (a .server .now) (a .out .now) (i .if1 .left) in
+    rw (n .0, n .1) (c .refusal-word .ensures, refl)
 
 pub sundr-server-list-at-spec : {M : Type 1} → statement M
 sundr-server-list-at-spec =
     tie.close
     (tie.spec
-    refusal-word-requires
-    returns
     read-requires
     list-requires
     listed-word-requires
     same-length
+    returns
+    refusal-word-requires
     returns-2)

@@ -1,5 +1,5 @@
--- The test of the length is the definition's, and behind it the answer is the server's: where it refuses, no byte is written, and where it passes, the list's bytes
--- are. There is no loop.
+-- The test of the length is the definition's, and behind it the answer is the server's: where it refuses, no byte is written, and where it
+-- passes, the list's bytes are. There is no loop.
 use mathlib.Core.Path.{refl, _∙_}
 use Rattle.refusal.proofs.Words.{gives-word}
 use Rattle.sundr.proofs.At.{makes, makes-not, not-sized}
@@ -29,8 +29,11 @@ check-word-requires c κs = search needs
 
 returns-2 : tie.Need-returns-2
 returns-2 c =
-    let a = c .before .before .before .before .before .before .args in
-    let g = makes-not (a .users) (a .server .now) (c .before .before .before .make .ensures) (c .before .before .before .before .if1 .left) (c .before .enum-told2 .given .1) in
+    let t = c .before in
+    let m = t .before .before in
+    let i = m .before in
+    let a = i .before .before .args in
+    let g = makes-not (a .users) (a .server .now) (m .make .ensures) (i .if1 .left) (t .enum-told2 .given .1) in
     (gives-word g (c .check-word .ensures), g .leaves)
 
 write-requires : tie.Need-write-requires
@@ -44,9 +47,13 @@ same-length c = search needs
 
 returns-3 : tie.Need-returns-3
 returns-3 c =
-    let a = c .before .before .before .before .before .before .before .before .before .before .args in
-    let g = makes (a .users) (a .server .now) (c .before .before .before .before .before .before .before .make .ensures) (c .before .before .before .before .before .before .before .before .if1 .left) (c .before .before .before .before .before .enum-told .given .1) in
-    (gives-word g (c .check-word2 .ensures), c .before .before .before .write .ensures ∙ g .leaves)
+    let w = c .before .before .before in
+    let t = w .before .before in
+    let m = t .before .before in
+    let i = m .before in
+    let a = i .before .before .args in
+    let g = makes (a .users) (a .server .now) (m .make .ensures) (i .if1 .left) (t .enum-told .given .1) in
+    (gives-word g (c .check-word2 .ensures), w .write .ensures ∙ g .leaves)
 
 pub sundr-server-make-at-spec : {M : Type 1} → statement M
 sundr-server-make-at-spec =

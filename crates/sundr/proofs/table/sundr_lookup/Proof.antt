@@ -1,4 +1,5 @@
--- The test of the buffer's length is the definition's; behind it the lookup's own answer says what the number is, and whether the handle is copied. There is no loop.
+-- The test of the buffer's length is the definition's; behind it the lookup's own answer says what the number is, and whether the handle is
+-- copied. There is no loop.
 use mathlib.Core.Path.{_≡_}
 use lib.ListN.{length}
 use Rattle.sundr.proofs.Into.{not-32, is-found, is-absent, is-refused}
@@ -44,22 +45,34 @@ same-length c = search needs
 
 returns-2 : tie.Need-returns-2
 returns-2 c =
-    let a = c .before .before .before .before .before .before .before .before .before .before .before .before .before .before .before .args in
-    let k = c .before .before .before .before .before .before .before .before .before .before .lookup in
-    let l : length (k .result .handle) ≡ 32 = search needs in
-    let t = is-found (a .handle .now) (a .number) (a .path .now) (a .out .now) (c .before .before .before .before .before .before .before .before .before .before .before .if1 .left) (k .ensures) (c .before .before .before .before .before .before .before .before .enum-told .given .1) l (c .word .ensures) (c .before .before .before .copy .ensures .1) in
+    let w = c .before .before .before in
+    let t = w .before .before .before .before .before in
+    let k = t .before .before in
+    let i = k .before in
+    let a = i .before .before .before .before .args in
+    let l : length (k .lookup .result .handle) ≡ 32 = search needs in
+    let g = is-found (a .handle .now) (a .number) (a .path .now) (a .out .now) (i .if1 .left) (k .lookup .ensures) in
+    let t = g (t .enum-told .given .1) l (c .word .ensures) (w .copy .ensures .1) in
     (t .number, t .buffer)
 
 returns-3 : tie.Need-returns-3
 returns-3 c =
-    let a = c .before .before .before .before .before .before .before .before .args in
-    let t = is-absent (a .handle .now) (a .number) (a .path .now) (a .out .now) (c .before .before .before .before .if1 .left) (c .before .before .before .lookup .ensures) (c .before .enum-told2 .given .1) (c .word2 .ensures) in
+    let t = c .before in
+    let k = t .before .before in
+    let i = k .before in
+    let a = i .before .before .before .before .args in
+    let g = is-absent (a .handle .now) (a .number) (a .path .now) (a .out .now) (i .if1 .left) (k .lookup .ensures) in
+    let t = g (t .enum-told2 .given .1) (c .word2 .ensures) in
     (t .number, t .buffer)
 
 returns-4 : tie.Need-returns-4
 returns-4 c =
-    let a = c .before .before .before .before .before .before .before .before .before .args in
-    let t = is-refused (a .handle .now) (a .number) (a .path .now) (a .out .now) (c .before .before .before .before .before .if1 .left) (c .before .before .before .before .lookup .ensures) (c .before .before .answer .given .1) (c .refusal-word2 .ensures) in
+    let t = c .before .before in
+    let k = t .before .before in
+    let i = k .before in
+    let a = i .before .before .before .before .args in
+    let g = is-refused (a .handle .now) (a .number) (a .path .now) (a .out .now) (i .if1 .left) (k .lookup .ensures) in
+    let t = g (t .answer .given .1) (c .refusal-word2 .ensures) in
     (t .number, t .buffer)
 
 pub sundr-lookup-spec : {M : Type 1} → statement M

@@ -1,16 +1,11 @@
--- What a `match` arm knows is which variant the answer is, and the number of each is the definition's. There is no loop.
+-- What a `match` arm knows is which variant the answer is, and the number of each is the law's. There is no loop.
 use Prim.Native.Nat.{ℕ}
-use mathlib.Core.Path.{_≡_, sym, ap, _∙_}
-use Rattle.refusal.specs.Word.{answerWord}
-use Rattle.refusal.proofs.Words.{word-refusal}
+use mathlib.Core.Path.{ap}
 use Rattle.writer.specs.Written.{answerOf}
-use Rattle.writer.specs.declared.Written.{Written}
 use borrow.Author.Needs.{needs}
+use Rattle.sundr.proofs.AnswerWord.{accepted-word, refused-word}
 use Rattle.sundr.proofs.table.written_word.Statement.{statement}
 use Rattle.sundr.proofs.table.written_word.Tie as tie
-
-of-variant : {l m : Written} → l ≡ m → answerWord (λ (n : ℕ). n) (λ n. 0) (answerOf m) ≡ answerWord (λ (n : ℕ). n) (λ n. 0) (answerOf l)
-of-variant e = sym (ap (λ v. answerWord (λ (n : ℕ). n) (λ n. 0) (answerOf v)) e)
 
 enum-known-w : tie.Need-enum-known-w
 enum-known-w c = search needs
@@ -25,12 +20,10 @@ refusal-word-requires : tie.Need-refusal-word-requires
 refusal-word-requires c κs = search needs
 
 returns : tie.Need-returns
-returns c = c .word .ensures ∙ of-variant (c .before .before .w .given .1)
+returns c = accepted-word (λ (n : ℕ). n) (λ n. 0) (ap answerOf (c .before .before .w .given .1)) (c .word .ensures)
 
 returns-2 : tie.Need-returns-2
-returns-2 c =
-    let r = c .before .before .w2 .given in
-    c .refusal-word .ensures ∙ (word-refusal Unit (r .0 .0) (λ (n : ℕ). n) (λ n. 0) ∙ of-variant (r .1))
+returns-2 c = let r = c .before .before .w2 .given in refused-word (λ (n : ℕ). n) (λ n. 0) (r .0 .0) (ap answerOf (r .1)) (c .refusal-word .ensures)
 
 pub written-word-spec : {M : Type 1} → statement M
 written-word-spec =
