@@ -1,5 +1,5 @@
 -- Each statement by its proof.
-use Rattle.sha256.proofs.Roots.{constants}
+use Rattle.sha256.proofs.Constants.{constants}
 use Rattle.sha256.proofs.Recurrence.{recurrence}
 use Rattle.protocol.proofs.CheckMeans.{check-means}
 use Rattle.protocol.proofs.NewMeans.{new-means}
@@ -14,14 +14,19 @@ use Rattle.protocol.proofs.SteadyTurns.{steady-turns}
 use Rattle.protocol.proofs.LastTurn.{last-turn}
 use Rattle.protocol.proofs.CommitsCounted.{commits-counted}
 use Rattle.protocol.proofs.ListingsAscend.{listings-ascend}
-use Rattle.itable.proofs.LookupMeaning.{lookup-means, none-only-at-root}
+use Rattle.itable.proofs.LookupMeans.{lookup-means}
+use Rattle.itable.proofs.NoneOnlyAtRoot.{none-only-at-root}
 use Rattle.itable.proofs.InodeMeaning.{block-check-means}
-use Rattle.itable.proofs.Means.{entry-means}
-use Rattle.itable.proofs.Answered.{written-answers}
-use Rattle.itable.proofs.Otherwise.{otherwise-collides}
-use Rattle.itable.proofs.Buffer.{buffer-answers}
-use Rattle.itable.proofs.Rows.{at-most-blocks}
-use Rattle.sundr.proofs.Read.{answers-read}
+use Rattle.itable.proofs.EntryMeans.{entry-means}
+use Rattle.itable.proofs.WrittenAnswers.{written-answers}
+use Rattle.itable.proofs.OtherwiseCollides.{otherwise-collides}
+use Rattle.itable.proofs.BufferAnswersAsTable.{buffer-answers}
+use Rattle.itable.proofs.AtMostBlocks.{at-most-blocks}
+use Rattle.sundr.proofs.AnswersRead.{answers-read}
+use Rattle.sundr.proofs.ServerInBytes.{server-in-bytes}
+use Rattle.input.proofs.UsersRefused.{users-refused}
+use Rattle.report.proofs.UsersPrinted.{users-printed}
+use Rattle.report.proofs.ExamplePrinted.{example-printed}
 use Rattle.claims.specs.Claims.{Claims}
 use Rattle.claims.proofs.ExamplesHold.{examples-hold}
 
@@ -52,5 +57,9 @@ claims =
       at-most-blocks = at-most-blocks;
       block-check-means = block-check-means;
       answers-read = answers-read;
+      server-in-bytes = server-in-bytes;
+      users-refused = users-refused;
+      users-printed = users-printed;
+      example-printed = example-printed;
       examples-hold = examples-hold;
     }

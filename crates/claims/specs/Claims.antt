@@ -17,7 +17,11 @@ use Rattle.protocol.specs.Listings.{ListingsAscend}
 use Rattle.itable.specs.LookupMeaning.{LookupMeans, NoneOnlyAtRoot}
 use Rattle.itable.specs.InodeMeaning.{BlockCheckMeans}
 use Rattle.itable.specs.Answers.{EntryMeans, AtMostBlocks, WrittenAnswers, OtherwiseCollides, BufferAnswersAsTable}
+use Rattle.input.specs.UsersRefused.{UsersRefused}
+use Rattle.report.specs.UsersPrinted.{UsersPrinted}
+use Rattle.report.specs.ExamplePrinted.{ExamplePrinted}
 use Rattle.sundr.specs.Read.{AnswersRead}
+use Rattle.sundr.specs.Server.{ServerInBytes}
 use Rattle.claims.specs.Examples.{ExamplesHold}
 
 pub record Claims : Type 1 where
@@ -70,5 +74,13 @@ pub record Claims : Type 1 where
   pub block-check-means : BlockCheckMeans
   -- What a caller in C reads in an answer's number is the answer, for every input of each call.
   pub answers-read : AnswersRead
+  -- A server's list is one thing as a struct and as bytes.
+  pub server-in-bytes : ServerInBytes
+
+  -- The desk program's input with a number of users of 0 or above 16: judged, and printed, `refuse 1 0 0`.
+  pub users-refused : UsersRefused
+  pub users-printed : UsersPrinted
+  -- The paper's example of its output.
+  pub example-printed : ExamplePrinted
   -- The twelve marked examples.
   pub examples-hold : ExamplesHold
