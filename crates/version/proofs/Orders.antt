@@ -59,7 +59,10 @@ module _ (f g : ℕ → ℕ) where
   pub strictly-one : eqb (standing f g 16) 1 ≡ countsStrictlyBefore f g
   unfolding standing countsStrictlyBefore countsBefore
   strictly-one =
-      rw (every-cong (λ v. eqb (f v) (g v)) (λ v. leb (g v) (f v) && leb (f v) (g v)) 0 16 (λ v a b. equal-both (f v) (g v)), every-both (λ v. leb (g v) (f v)) (λ v. leb (f v) (g v)) 0 16)
+      rw (
+        every-cong (λ v. eqb (f v) (g v)) (λ v. leb (g v) (f v) && leb (f v) (g v)) 0 16 (λ v a b. equal-both (f v) (g v)),
+        every-both (λ v. leb (g v) (f v)) (λ v. leb (f v) (g v)) 0 16,
+      )
       (by-one (countsBefore g f) (countsBefore f g))
 
   by-three : (a b : Bool) → not (eqb (cond a 0 1 + cond b 0 2) 3) ≡ (b || a)

@@ -146,14 +146,14 @@ fn zero_from(x: &[u8], from: usize) -> bool
 pub fn well_formed(users: u8, x: &[u8]) -> bool
     ensures { λ r. ⌜ r ≡ wellFormed users (now (x .entry)) ⌝ }
 {
-    let owner = owner(x);
+    let owner = owner(x) as usize;
     if layout::byte_at(x, KIND) != 1 {
         return false;
     }
-    if users <= owner {
+    if users as usize <= owner {
         return false;
     }
-    if count(x, owner) == 0 {
+    if count_at(x, owner) == 0 {
         return false;
     }
     if x.len() < SIZE {

@@ -9,6 +9,9 @@ use Rattle.version.proofs.well_formed.Tie as tie
 owner-requires : tie.Need-owner-requires
 owner-requires c κs = search needs
 
+cast-owner : tie.Need-cast-owner
+cast-owner c = search needs
+
 byte-at-requires : tie.Need-byte-at-requires
 byte-at-requires c κs = search needs
 
@@ -23,8 +26,8 @@ returns-2 c =
     let k = one .before in
     no-user _ _ _ _ (k .byte-at .ensures) (k .before .owner .ensures) (one .if1 .left) (c .if2 .taken)
 
-count-requires : tie.Need-count-requires
-count-requires c κs = search needs
+count-at-requires : tie.Need-count-at-requires
+count-at-requires c κs = search needs
 
 returns-3 : tie.Need-returns-3
 returns-3 c =
@@ -32,7 +35,7 @@ returns-3 c =
     let user = n .before in
     let one = user .before in
     let k = one .before in
-    no-version _ _ _ _ (k .byte-at .ensures) (k .before .owner .ensures) (one .if1 .left) (user .if2 .left) _ (n .count .ensures) (c .if3 .taken)
+    no-version _ _ _ _ (k .byte-at .ensures) (k .before .owner .ensures) (one .if1 .left) (user .if2 .left) _ (n .count-at .ensures) (c .if3 .taken)
 
 zero-from-requires : tie.Need-zero-from-requires
 zero-from-requires c κs = search needs
@@ -44,7 +47,7 @@ returns-4 c =
     let user = n .before in
     let one = user .before in
     let k = one .before in
-    others _ _ _ _ (k .byte-at .ensures) (k .before .owner .ensures) (one .if1 .left) (user .if2 .left) _ (n .count .ensures)
+    others _ _ _ _ (k .byte-at .ensures) (k .before .owner .ensures) (one .if1 .left) (user .if2 .left) _ (n .count-at .ensures)
     (some .if3 .left) _ (c .zero-from .ensures)
 
 sub-zero-from : tie.Need-sub-zero-from
@@ -67,7 +70,7 @@ returns-5 c =
     let one = user .before in
     let k = one .before in
     let x = k .before .before .before .args .x .now in
-    others _ _ _ _ (k .byte-at .ensures) (k .before .owner .ensures) (one .if1 .left) (user .if2 .left) _ (n .count .ensures)
+    others _ _ _ _ (k .byte-at .ensures) (k .before .owner .ensures) (one .if1 .left) (user .if2 .left) _ (n .count-at .ensures)
     (some .if3 .left) _ (c .zero-from2 .ensures ∙ zero-alike _ _ (first-alike x) _)
 
 pub well-formed-spec : {M : Type 1} → statement M
@@ -75,10 +78,11 @@ well-formed-spec =
     tie.close
     (tie.spec
     owner-requires
+    cast-owner
     byte-at-requires
     returns
     returns-2
-    count-requires
+    count-at-requires
     returns-3
     zero-from-requires
     returns-4

@@ -18,9 +18,10 @@ same-length c = search needs
 
 returns : tie.Need-returns
 returns c =
-    let a = c .before .before .before .before .before .before .before in
-    four-copied (a .args .x) (a .args .out .now) _ _ (a .pre) (c .before .before .before .before .before .u32-bytes .ensures)
-    (c .before .before .copy .ensures .1)
+    let p = c .before .before in
+    let b = p .before .before .before in
+    let s = b .before .before in
+    four-copied (s .args .x) (s .args .out .now) _ _ (s .pre) (b .u32-bytes .ensures) (p .copy .ensures .1)
 
 pub write-count-spec : {M : Type 1} → statement M
 write-count-spec = tie.close (tie.spec u32-bytes-requires slice-aggregate-copy copy-requires same-length returns)

@@ -10,10 +10,6 @@ use Rattle.version.proofs.Copied.{copied-over}
 use borrow.Author.Needs.{needs}
 use Rattle.client.proofs.next.write.Statement.{statement}
 use Rattle.client.proofs.next.write.Tie as tie
-use Rattle.client.proofs.next.write.Reads as reads
-use Rattle.client.proofs.next.write.Lts as lts
-use Rattle.bytes.proofs.copy.Reads as copy-reads
-use Rattle.version.proofs.write.Reads as write-reads
 
 slice-aggregate-copy : tie.Need-slice-aggregate-copy
 slice-aggregate-copy c = search needs
@@ -38,8 +34,7 @@ returns c =
     let p = c .before .before in
     let w = p .before .before .before in
     let h = w .before .before in
-    let s = h .before .before .before .before in
-    let a = s .args in
+    let a = h .before .before .before .before .args in
     p .copy2 .ensures .1 ∙
     (copied-over _ (a .out .now) (omega arith) ∙
     (w .write .ensures ∙
@@ -49,11 +44,4 @@ returns c =
 pub write-spec : {M : Type 1} → statement M
 write-spec =
     tie.close
-    (tie.spec
-    slice-aggregate-copy
-    copy-requires
-    write-requires
-    slice-aggregate-copy-2
-    copy-requires-2
-    same-length
-    returns)
+    (tie.spec slice-aggregate-copy copy-requires write-requires slice-aggregate-copy-2 copy-requires-2 same-length returns)

@@ -1,4 +1,4 @@
--- Records as the code reads them: a byte of a record stands in the list, and a part of the list is a record.
+-- Records as the code reads them: a part of the list is a record.
 use Prim.Native.Nat.{ℕ, _+_, _*_, _-_, _≤_, _<_}
 use mathlib.Core.Bool.{Bool, true, false}
 use mathlib.Core.List.{List, [], _∷_}
@@ -7,7 +7,7 @@ use native.Mathlib.Omega.{arith}
 use borrow.Author.Tests.{eq-eqb, ne-eqb}
 use lib.Dec.{ltb, eqb}
 use lib.ListN.{length, getD, set, take, drop}
-use lib.Seq.{getD-take, getD-drop, getD-set-same, getD-set-other}
+use lib.Seq.{getD-set-same, getD-set-other}
 use borrow.Author.Count.{below-more}
 use Rattle.search.specs.Search.{find}
 use Rattle.layout.specs.Strings.{same}
@@ -17,16 +17,10 @@ use Rattle.protocol.specs.List.{records, recordAt, entry, wellPlaced}
 use Rattle.protocol.specs.Check.{current}
 use Rattle.version.specs.Version.{fields}
 use Rattle.version.specs.declared.Version.{Version}
-use Rattle.client.specs.Stages.{none}
+use Rattle.client.specs.Internal.Stages.{none}
 
+-- The part of the list that the code lends.
 module _ (list : List ℕ) (i : ℕ) where
-  pub owner-at : owner (recordAt list i) ≡ getD list (98 * i + 1) 0
-  owner-at = rw (getD-take 98 (drop (98 * i) list) 1 0 (omega arith), getD-drop (98 * i) list 1 0)
-
-  pub owner-below : ((m : ℕ) → m < records list → owner (recordAt list m) < 16) → i < records list → getD list (98 * i + 1) 0 < 16
-  owner-below h l = rw owner-at at (h i l)
-
-  -- The part of the list that the code lends.
   abbrev pub lentAt : List ℕ
   lentAt = take (98 * i + 98 - 98 * i) (drop (98 * i) list)
 
@@ -46,11 +40,11 @@ module _ (N : ℕ) (list : List ℕ) (i : ℕ) (b : Bool) (e : b ≡ wellFormed 
   unfolding wellPlaced
   placed-first t z = rw (formed, t, eq-eqb i 0 z)
 
-  pub placed-above : b ≡ true → (i ≡ 0 → ⊥) → ltb (getD list (98 * i - 97) 0) (getD list (98 * i + 1) 0) ≡ wellPlaced N list i
+  pub placed-above :
+      b ≡ true → (i ≡ 0 → ⊥) → (low high : ℕ) → low ≡ owner (recordAt list (i - 1)) → high ≡ owner (recordAt list i) →
+      ltb low high ≡ wellPlaced N list i
   unfolding wellPlaced
-  placed-above t z =
-      let q : 98 * (i - 1) + 1 ≡ 98 * i - 97 = omega arith in
-      rw (formed, t, ne-eqb i 0 z, owner-at list i, owner-at list (i - 1), q)
+  placed-above t z low high el eh = rw (formed, t, ne-eqb i 0 z, el, eh)
 
 -- One more record read.
 pub read-more :
