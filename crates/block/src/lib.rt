@@ -1,12 +1,17 @@
-// Blocks of an i-table: one block's bytes judged well formed at its place, and its slots searched
-// for an i-number. Each call takes any bytes; past their end stand zeros. Nothing here hashes, and
-// nothing is known of other blocks.
+// Blocks of an i-table: one block's bytes judged well formed at its place, its slots searched for an
+// i-number, and the block filled (`fill::fill`). Each call takes any bytes; past their end stand zeros.
+// Nothing here hashes, and nothing is known of other blocks.
+pub mod fill;
+
 ghost use mathlib.Core.Path.{_≡_};
 ghost use Prim.Native.Nat.{_<_};
 ghost use lib.Dec.{eqb};
 ghost use Rattle.search.specs.Search.{find};
 ghost use Rattle.itable.specs.Block.{used as usedOf, number as numberOf, kindDue, usedDue, ascending as ascendingOf, firstDue, wellFormed};
 ghost use Rattle.itable.specs.Lookup.{lastAtMost};
+
+// The bytes of a block.
+pub const SIZE: usize = 642;
 
 // The number in slot j.
 fn number(b: &[u8], j: usize) -> u64

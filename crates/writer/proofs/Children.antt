@@ -17,8 +17,8 @@ use Rattle.sha256.specs.Sha256.{sha256}
 use Rattle.sha256.specs.Hash.{hash}
 use Rattle.sha256.proofs.Laws.{hash-left, sha256-length}
 use Rattle.itable.specs.Block.{size}
-use Rattle.writer.specs.Children.{ReadBack}
-use Rattle.writer.proofs.Bytes.{mid, mid-length}
+use Rattle.writer.specs.Internal.Children.{ReadBack}
+use Rattle.block.proofs.Lent.{mid, mid-length}
 
 module _ (blocks nums hashes : List ℕ) (u j : ℕ) (few : u ≤ 16) (lb : length blocks ≡ 642 * u) (ln : length nums ≡ 16) (lh : length hashes ≡ 512) (h : j < u) where
   pub read-next :

@@ -13,7 +13,7 @@ use Rattle.itable.specs.Block.{size, number}
 use Rattle.itable.specs.Table.{Level, wide, usedIn, block, above, row, leaves, fours, fives, written}
 use Rattle.itable.proofs.Block.{Sized, above-sized, number-block}
 use Rattle.itable.proofs.Rows.{length-row, row-part, no-fours, some-fours, no-fives, some-fives}
-use Rattle.writer.specs.Children.{children}
+use Rattle.writer.specs.Internal.Children.{children}
 use Rattle.writer.proofs.Blocks.{block-cong, row-cong}
 
 -- Behind a row that stands in the buffer, what was written over its blocks as they were read back is the row over it.

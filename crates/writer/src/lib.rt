@@ -2,7 +2,6 @@
 // lent buffer. All tests come before the first store. The i-handle is the hash of the last block,
 // which the caller takes; nothing is read but what is lent, and nothing is kept between calls.
 
-mod block;
 mod count;
 mod row;
 

@@ -1,12 +1,12 @@
 // Rows of blocks: the leaves over the files, and inner blocks over blocks that are written already.
-use crate::block;
 use crate::count;
+use block::fill;
 ghost use mathlib.Core.Path.{_≡_};
 ghost use Prim.Native.Nat.{_+_, _*_, _≤_};
 ghost use mathlib.Core.List.{_++_};
 ghost use lib.ListN.{length, take, drop};
 ghost use Rattle.itable.specs.Table.{files, row, wide};
-ghost use Rattle.writer.specs.Children.{children, ReadBack};
+ghost use Rattle.writer.specs.Internal.Children.{children, ReadBack};
 
 // Writes the l leaves over the files.
 pub(crate) fn leaves(numbers: &[u64], handles: &[u8], l: usize, out: &mut [u8])
@@ -20,7 +20,7 @@ pub(crate) fn leaves(numbers: &[u64], handles: &[u8], l: usize, out: &mut [u8])
         let a = 16 * k;
         let b = 512 * k;
         let at = 642 * k;
-        block::fill(
+        fill::fill(
             3,
             &numbers[a..a + u],
             &handles[b..b + 32 * u],
@@ -58,7 +58,7 @@ pub(crate) fn inner(kind: u8, from: usize, n: usize, w: usize, out: &mut [u8])
         let a = 642 * (from + 16 * k);
         read_back(&out[a..a + 642 * u], u, &mut numbers, &mut hashes);
         let at = 642 * (from + n + k);
-        block::fill(
+        fill::fill(
             kind,
             &numbers[0..u],
             &hashes[0..32 * u],
