@@ -11,6 +11,6 @@ pub mod Paths
 pub mod Answered
 pub mod Means
 pub mod Buffer
-pub mod InodeMeaning
+pub mod BlockCheckMeans
 pub mod BlockMeaning
 pub mod LookupMeaning

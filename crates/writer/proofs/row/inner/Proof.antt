@@ -109,14 +109,18 @@ add-k : tie.Need-add-k Inv-loop μ-loop
 add-k c = omega arith
 
 loop-less : tie.Need-loop-less Inv-loop μ-loop
-loop-less c = falls _ _ (c .before .before .before .before .before .before .before .before .before .before .before .before .before .before .before .before .loop-test .taken)
+loop-less c =
+    let b = c .before .before .before .before .before .before .before .before .before in
+    let t = b .before .before .before .before .before .before .before in falls _ _ (t .loop-test .taken)
 
 loop-again : tie.Need-loop-again Inv-loop μ-loop
 unfolding children
 loop-again c =
-    let b = c .before .before .before .before .before .before .before .before .before .before .read-back in
-    let v = c .before .before .before .before .before .before .before .before .before .before .before .before .before .before .before .used-in in
-    let p = c .before .before .before .before .before .before .before .before .before .before .before .before .before .before .before .before .before in
+    let q = c .before .before .before .before .before .before .before .before .before .before in
+    let w = q .before .before .before .before .before in
+    let p = w .before .before in
+    let b = q .read-back in
+    let v = w .used-in in
     let l = p .loop in
     let a = p .before .before .args in
     let at = 642 * (a .from + a .n + l .k) in

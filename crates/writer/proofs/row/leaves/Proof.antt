@@ -83,13 +83,14 @@ add-k : tie.Need-add-k Inv-loop μ-loop
 add-k c = omega arith
 
 loop-less : tie.Need-loop-less Inv-loop μ-loop
-loop-less c = falls _ _ (c .before .before .before .before .before .before .before .loop-test .taken)
+loop-less c = let t = c .before .before .before .before .before .before .before in falls _ _ (t .loop-test .taken)
 
 loop-again : tie.Need-loop-again Inv-loop μ-loop
 unfolding files
 loop-again c =
-    let v = c .before .before .before .before .before .before .used-in in
-    let p = c .before .before .before .before .before .before .before .before in
+    let w = c .before .before .before .before .before .before in
+    let p = w .before .before in
+    let v = w .used-in in
     let l = p .loop in
     let s = p .before .before .before .before in
     let a = s .args in

@@ -73,11 +73,12 @@ loop-less c = omega arith
 
 loop-again : tie.Need-loop-again Inv-loop μ-loop
 loop-again c =
-    let t = c .before .before .before .before .before .before in
+    let n = c .before .before .before .before .before in
+    let t = n .before in
     let l = t .before .loop in
     let s = t .before .before .before .before .before in
     let r =
-    read-next _ _ _ _ _ (s .pre .0) (s .pre .1) (l .inv .1) (l .inv .2) (t .loop-test .taken) (l .inv .3) _ (c .before .before .before .before .before .u64-at .ensures) _ _
+    read-next _ _ _ _ _ (s .pre .0) (s .pre .1) (l .inv .1) (l .inv .2) (t .loop-test .taken) (l .inv .3) _ (n .u64-at .ensures) _ _
     (c .before .before .sha256 .ensures) in
     (omega arith, r .0, r .1, r .2)
 
