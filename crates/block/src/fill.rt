@@ -1,4 +1,9 @@
 // One block, filled: the layout's writing half.
+use crate::FIRST_NUMBER;
+use crate::KIND;
+use crate::SIZE;
+use crate::SLOT;
+use crate::USED;
 ghost use mathlib.Core.Path.{_≡_};
 ghost use Prim.Native.Nat.{_-_, _*_, _≤_};
 ghost use mathlib.Core.List.{_++_};
@@ -7,6 +12,9 @@ ghost use Rattle.layout.specs.Bytes.{bytes8};
 ghost use Rattle.itable.specs.Table.{files, block};
 ghost use Rattle.block.specs.Filled.{fits as fitsOf, filled};
 
+// Where the value stands in a slot, behind the number.
+const VALUE: usize = 8;
+
 // Writes one slot: a number and its value.
 fn slot(number: u64, value: &[u8], out: &mut [u8])
     requires { ⌜ (length (now value) ≡ 32) × (length (now out) ≡ 40) ⌝ }
@@ -14,7 +22,7 @@ fn slot(number: u64, value: &[u8], out: &mut [u8])
 {
     let b = layout::u64_bytes(number);
     bytes::copy(&b, out);
-    bytes::copy(value, &mut out[8..40]);
+    bytes::copy(value, &mut out[VALUE..SLOT]);
 }
 
 // Sets the bytes from a place on to zero.
@@ -35,16 +43,20 @@ fn entries(kind: u8, numbers: &[u64], values: &[u8], out: &mut [u8])
     ensures { λ r. ⌜ now (out .exit) ≡ block kind (files (now (numbers .entry)) (now (values .entry))) 0 ⌝ }
 {
     let u = numbers.len();
-    out[0] = kind;
-    out[1] = u as u8;
+    out[KIND] = kind;
+    out[USED] = u as u8;
     let mut j = 0;
     while j < u {
         let from = 32 * j;
-        let at = 2 + 40 * j;
-        slot(numbers[j], &values[from..from + 32], &mut out[at..at + 40]);
+        let at = FIRST_NUMBER + SLOT * j;
+        slot(
+            numbers[j],
+            &values[from..from + 32],
+            &mut out[at..at + SLOT],
+        );
         j += 1;
     }
-    clear(2 + 40 * u, out);
+    clear(FIRST_NUMBER + SLOT * u, out);
 }
 
 // Whether these are the lengths of a block's numbers, values and bytes.
@@ -57,7 +69,7 @@ fn fits(numbers: usize, values: usize, bytes: usize) -> bool
     if values != 32 * numbers {
         return false;
     }
-    bytes == crate::SIZE
+    bytes == SIZE
 }
 
 // Fills one block with these entries, each a number and 32 bytes. Gives whether the lengths are those of a

@@ -41,7 +41,7 @@ fn read_back(blocks: &[u8], u: usize, numbers: &mut [u64], hashes: &mut [u8])
     while j < u {
         let a = SIZE * j;
         let b = 32 * j;
-        numbers[j] = layout::u64_at(blocks, a + 2);
+        numbers[j] = block::number(&blocks[a..a + SIZE], 0);
         sha256::sha256(&blocks[a..a + SIZE], &mut hashes[b..b + 32]);
         j += 1;
     }

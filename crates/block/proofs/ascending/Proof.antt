@@ -14,19 +14,17 @@ use Rattle.block.proofs.ascending.Statement.{statement}
 use Rattle.block.proofs.ascending.Tie as tie
 
 abbrev Inv-loop : tie.InvT-loop
-Inv-loop b used j₀ j = (used ≡ block.used b) × (used < 256) × (j ≤ used) × ((m : ℕ) → m < j → ltb (block.number b m) (block.number b (m + 1)) ≡ true)
+Inv-loop b used j₀ j =
+    (used ≡ block.used b) × (j ≤ used - 1) × ((m : ℕ) → m < j → ltb (block.number b m) (block.number b (m + 1)) ≡ true)
 
 abbrev μ-loop : tie.MeasureT-loop
 μ-loop b used j₀ j = used - j
 
-byte-at-requires : tie.Need-byte-at-requires Inv-loop μ-loop
-byte-at-requires c κs = search needs
-
-cast-used : tie.Need-cast-used Inv-loop μ-loop
-cast-used c = omega arith
+used-requires : tie.Need-used-requires Inv-loop μ-loop
+used-requires c κs = search needs
 
 loop-holds : tie.Need-loop-holds Inv-loop μ-loop
-loop-holds c = (c .byte-at .ensures, omega arith, omega arith, λ m h. absurd (omega arith))
+loop-holds c = (c .used .ensures, omega arith, λ m h. absurd (omega arith))
 
 add-loop : tie.Need-add-loop Inv-loop μ-loop
 add-loop c = omega arith
@@ -35,17 +33,19 @@ add-number : tie.Need-add-number Inv-loop μ-loop
 add-number c = omega arith
 
 number-requires : tie.Need-number-requires Inv-loop μ-loop
-number-requires c κs = omega arith
+number-requires c κs = search needs
 
 number-requires-2 : tie.Need-number-requires-2 Inv-loop μ-loop
-number-requires-2 c κs = omega arith
+number-requires-2 c κs = search needs
 
 returns : tie.Need-returns Inv-loop μ-loop
 unfolding block.ascending
 returns c =
+    let next = c .before .before in
+    let l = next .before .before .loop in
     sym
-    (every-fails _ _ _ (c .before .before .before .before .loop .j) (omega arith) (omega arith)
-    (read-above _ _ (c .before .before .number .ensures) (c .before .number2 .ensures) (c .if1 .taken)))
+    (every-fails _ _ _ (l .j) (omega arith) (omega (arith, l .inv .0))
+    (read-above _ _ (next .number .ensures) (c .before .number2 .ensures) (c .if1 .taken)))
 
 add-j : tie.Need-add-j Inv-loop μ-loop
 add-j c = omega arith
@@ -54,17 +54,17 @@ loop-less : tie.Need-loop-less Inv-loop μ-loop
 loop-less c = omega arith
 
 loop-again : tie.Need-loop-again Inv-loop μ-loop
-loop-again c = (
-  c .before .before .before .before .loop .inv .0,
-  omega arith,
-  omega arith,
-  below-more _ _ (c .before .before .before .before .loop .inv .3)
-      (read-below _ _ (c .before .before .number .ensures) (c .before .number2 .ensures) (c .if1 .left)),
-)
+loop-again c =
+    let next = c .before .before in
+    let l = next .before .before .loop in (
+      l .inv .0,
+      omega arith,
+      below-more _ _ (l .inv .2) (read-below _ _ (next .number .ensures) (c .before .number2 .ensures) (c .if1 .left)),
+    )
 
 returns-2 : tie.Need-returns-2 Inv-loop μ-loop
 unfolding block.ascending
-returns-2 c = sym (every-intro _ _ _ (λ m a l. c .before .loop .inv .3 m (omega arith)))
+returns-2 c = let i = c .before .loop .inv in sym (every-intro _ _ _ (λ m a l. i .2 m (omega (arith, i .0))))
 
 pub ascending-spec : {M : Type 1} → statement M
 ascending-spec =
@@ -72,8 +72,7 @@ ascending-spec =
     (tie.spec
     Inv-loop
     μ-loop
-    byte-at-requires
-    cast-used
+    used-requires
     loop-holds
     add-loop
     add-number

@@ -26,11 +26,20 @@ mul-a c = omega arith
 mul-b : tie.Need-mul-b Inv-loop μ-loop
 mul-b c = omega arith
 
-add-u64-at : tie.Need-add-u64-at Inv-loop μ-loop
-add-u64-at c = omega arith
+add-number : tie.Need-add-number Inv-loop μ-loop
+add-number c = omega arith
 
-u64-at-requires : tie.Need-u64-at-requires Inv-loop μ-loop
-u64-at-requires c κs = omega arith
+sub-number : tie.Need-sub-number Inv-loop μ-loop
+sub-number c = omega arith
+
+part-number-start : tie.Need-part-number-start Inv-loop μ-loop
+part-number-start c = omega arith
+
+part-number-end : tie.Need-part-number-end Inv-loop μ-loop
+part-number-end c = omega arith
+
+number-requires : tie.Need-number-requires Inv-loop μ-loop
+number-requires c κs = tt
 
 mul-numbers : tie.Need-mul-numbers Inv-loop μ-loop
 mul-numbers c = omega arith
@@ -74,11 +83,11 @@ loop-less c = omega arith
 loop-again : tie.Need-loop-again Inv-loop μ-loop
 loop-again c =
     let n = c .before .before .before .before .before in
-    let t = n .before in
+    let t = n .before .before in
     let l = t .before .loop in
     let s = t .before .before .before .before .before in
     let r =
-    read-next _ _ _ _ _ (s .pre .0) (s .pre .1) (l .inv .1) (l .inv .2) (t .loop-test .taken) (l .inv .3) _ (n .u64-at .ensures) _ _
+    read-next _ _ _ _ _ (s .pre .0) (s .pre .1) (l .inv .1) (l .inv .2) (t .loop-test .taken) (l .inv .3) _ (n .number .ensures) _ _
     (c .before .before .sha256 .ensures) in
     (omega arith, r .0, r .1, r .2)
 
@@ -102,8 +111,11 @@ read-back-spec =
     loop-holds
     mul-a
     mul-b
-    add-u64-at
-    u64-at-requires
+    add-number
+    sub-number
+    part-number-start
+    part-number-end
+    number-requires
     mul-numbers
     slice-write-numbers
     add-sha256

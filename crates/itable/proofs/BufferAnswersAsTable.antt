@@ -21,8 +21,8 @@ use Rattle.itable.specs.Write.{numberAbove, writeSteps, blocksGiven, wri
 use Rattle.itable.specs.Lookup.{Entry}
 use Rattle.itable.specs.Answers.{IsTable, Answers, AllBelow, Collision, pathOf, BufferAnswersAsTable}
 use Rattle.itable.proofs.Rows.{length-written}
-use Rattle.itable.proofs.Answered.{written-answers}
-use Rattle.itable.proofs.Otherwise.{otherwise-collides}
+use Rattle.itable.proofs.WrittenAnswers.{written-answers}
+use Rattle.itable.proofs.OtherwiseCollides.{otherwise-collides}
 
 -- What the writer's tests say.
 module _ (nums handles : List ℕ) (room : ℕ) (p : Passing (writeSteps nums handles room)) where
@@ -34,7 +34,8 @@ module _ (nums handles : List ℕ) (room : ℕ) (p : Passing (writeSteps nums ha
       let g : suc j - 1 ≡ j = omega arith in
       ⊎-elim (λ z. absurd (omega (arith, eqb-true (suc j) 0 z)))
       (λ l. subst (λ x. getD nums x 0 < getD nums (suc j) 0) g (ltb-true (getD nums (suc j - 1) 0) (getD nums (suc j) 0) l))
-      (either-true (eqb (suc j) 0) (ltb (getD nums (suc j - 1) 0) (getD nums (suc j) 0)) (every-at (numberAbove nums) 0 (length nums) e (suc j) (omega arith) (omega arith)))
+      (either-true (eqb (suc j) 0) (ltb (getD nums (suc j - 1) 0) (getD nums (suc j) 0))
+      (every-at (numberAbove nums) 0 (length nums) e (suc j) (omega arith) (omega arith)))
 
   is-table : IsTable (files nums handles)
   unfolding writeSteps files

@@ -1,13 +1,13 @@
--- One consulted block: how the lookup ends at it, or the slot along which it goes on. It serves the contracts within the crate; what the
--- lookup promises is in Looked, and does not mention it.
-use Prim.Native.Nat.{ℕ, suc, _≤_, _<_}
+-- One consulted block: how the lookup ends at it, or the slot along which it goes on.
+use Prim.Native.Nat.{ℕ, suc}
 use mathlib.Core.List.{List, [], _∷_}
 use mathlib.Core.Path.{_≡_}
 use Rattle.layout.specs.Strings.{same}
 use Rattle.refusal.specs.Answer.{Answer, refused}
 use Rattle.refusal.specs.Order.{unless, inOrder}
 use Rattle.sha256.specs.Sha256.{sha256}
-use Rattle.itable.specs.Block.{kind, used, value, wellFormed}
+use Rattle.itable.specs.Block.{value, wellFormed}
+use Rattle.itable.specs.declared.Link.{Link}
 use Rattle.itable.specs.Lookup.{Entry, found, absent, known, answerAt}
 use Rattle.lookup.specs.declared.End.{End}
 use Rattle.lookup.specs.declared.End.the-variants.{WrongHash, Malformed, Here, Nowhere}
@@ -26,27 +26,13 @@ abbrev pub following : Step → List ℕ → ℕ → ℕ → (ℕ → Answer Ent
 following (Ends e) b left d on = ending e b left d
 following (Leads j) b left d on = on j
 
--- One more than the slot that is named; 0 for none.
-abbrev pub endSlot : End → ℕ
-endSlot WrongHash = 0
-endSlot Malformed = 0
-endSlot (Here j) = suc j
-endSlot Nowhere = 0
-
-abbrev pub slotOf : Step → ℕ
-slotOf (Ends e) = endSlot e
-slotOf (Leads j) = suc j
-
 -- What a well-formed block b says of i, whatever stands behind it.
 pub record Searched (b : List ℕ) (i : ℕ) (r : Step) : Type 0 where
   pub says : (left d : ℕ) (on : ℕ → Answer Entry) → answerAt b i left (suc d) on ≡ following r b left d on
-  pub slot : slotOf r ≤ used b
 
--- The block b at its place: 8, then 3, then what it says of i. A slot that is named is one of the sixteen, and the block then has a kind.
-pub record Consulted (b : List ℕ) (due first : ℕ) (hash : List ℕ) (i : ℕ) (r : Step) : Type 0 where
+-- The block b where k leads to it: 8, then 3, then what it says of i.
+pub record Consulted (b : List ℕ) (k : Link) (i : ℕ) (r : Step) : Type 0 where
   pub says :
       (left d : ℕ) (on : ℕ → Answer Entry) →
-      inOrder (unless (same (sha256 b) hash) 8 d 0 ∷ unless (wellFormed due first b) 3 d 0 ∷ []) (answerAt b i left (suc d) on) ≡
+      inOrder (unless (same (sha256 b) (k .hash)) 8 d 0 ∷ unless (wellFormed k b) 3 d 0 ∷ []) (answerAt b i left (suc d) on) ≡
       following r b left d on
-  pub slot : slotOf r ≤ 16
-  pub some-kind : 0 < slotOf r → 0 < kind b

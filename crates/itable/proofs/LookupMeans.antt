@@ -19,10 +19,12 @@ use Rattle.refusal.specs.Answer.{Answer, accepted, refused}
 use Rattle.refusal.specs.Order.{inOrder}
 use Rattle.refusal.proofs.Means.{Stage, Unless, tests-mean, goes-on, ends as stage-ends}
 use Rattle.sha256.specs.Sha256.{sha256}
-use Rattle.itable.specs.Block.{size, kind, used, number, value, wellFormed}
+use Rattle.itable.specs.Block.{size, kind, used, number, value, toRoot, toChild, wellFormed}
+use Rattle.itable.specs.declared.Link.{Link}
 use Rattle.itable.specs.Table.{Level}
 use Rattle.itable.specs.Lookup.{Entry, found, absent, known, answerAt, consult, pathSteps, lookup}
-use Rattle.itable.specs.LookupMeaning.{Sizes, WellFormed, Link, toRoot, toChild, Passes, Ends, in-leaf, not-in-leaf, none-leads, Leads, Says, ends, leads, Fails, missing, wrong-hash, malformed, left-over, later, Why, lengths, along, LookupMeans, NoneOnlyAtRoot}
+use Rattle.itable.specs.LookupMeaning.{Sizes, WellFormed, Passes, Ends, in-leaf, not-in-leaf, none-leads, Leads, Says, ends, leads, LookupMeans}
+use Rattle.itable.specs.LookupMeaning.{Fails, missing, wrong-hash, malformed, left-over, later, Why, lengths, along}
 use Rattle.itable.proofs.Place.{ascends-lt, last-slot, last-none, entry-found, entry-absent}
 use Rattle.itable.proofs.Consult as consulting
 use Rattle.itable.proofs.BlockMeaning.{formed-means}
@@ -68,53 +70,48 @@ module _ (b : List ℕ) (i : ℕ) where
       (bool-cases (eqb (kind b) 3))
 
   module _ (left d : ℕ) (on : ℕ → Answer Entry) where
-    ends-answer : (due first : ℕ) → WellFormed due first b → (e : Entry) → Ends b i e → answerAt b i left d on ≡ known left d e
-    ends-answer due first w e (in-leaf j k l q) =
+    ends-answer : (k : Link) → WellFormed k b → (e : Entry) → Ends b i e → answerAt b i left d on ≡ known left d e
+    ends-answer k w e (in-leaf j leaf l q) =
         let rows : Level = record { count = used b; number = number b; value = value b } in
-        consulting.answer-leaf b i left d on k ∙
+        consulting.answer-leaf b i left d on leaf ∙
         ap (known left d)
         (entry-found (number b) (value b) (used b) i j l (λ m h r. let a = ascends-lt rows (w .ascending) m j h l in omega arith) q)
-    ends-answer due first w e (not-in-leaf k f) =
-        consulting.answer-leaf b i left d on k ∙ ap (known left d) (entry-absent (number b) (value b) (used b) i f)
-    ends-answer due first w e (none-leads k f) =
-        consulting.answer-none b i left d on k (last-none (number b) i (used b) f)
+    ends-answer k w e (not-in-leaf leaf f) =
+        consulting.answer-leaf b i left d on leaf ∙ ap (known left d) (entry-absent (number b) (value b) (used b) i f)
+    ends-answer k w e (none-leads inner f) =
+        consulting.answer-none b i left d on inner (last-none (number b) i (used b) f)
 
     leads-answer : (j : ℕ) → Leads b i j → answerAt b i left d on ≡ on j
     leads-answer j w =
         consulting.answer-on b i left d on j (w .inner) (last-slot (number b) i (used b) j (w .is-used) (w .at-most) (w .last))
 
 module _ (path : List ℕ) (i : ℕ) where
-  -- The lookup from block d on, to which k leads.
-  abbrev from : ℕ → ℕ → Link → Answer Entry
-  from left d k = consult path i left d (k .due) (k .first) (k .hash)
-
   module _ (left d : ℕ) (k : Link) where
     abbrev block : List ℕ
     block = part size path d
 
     -- Block d does not pass, or it does.
-    fails-hash : same (sha256 block) (k .hash) ≡ false → from (suc left) d k ≡ refused 8 d 0
+    fails-hash : same (sha256 block) (k .hash) ≡ false → consult path i (suc left) d k ≡ refused 8 d 0
     unfolding consult inOrder
     fails-hash e = rw e
 
-    fails-form : sha256 block ≡ k .hash → wellFormed (k .due) (k .first) block ≡ false → from (suc left) d k ≡ refused 3 d 0
+    fails-form : sha256 block ≡ k .hash → wellFormed k block ≡ false → consult path i (suc left) d k ≡ refused 3 d 0
     unfolding consult inOrder
-    fails-form e f = rw (← e, same-refl (sha256 block), f)
+    fails-form e f = rw (f, ← e, same-refl (sha256 block))
 
     module _ (w : Passes path d k) where
-      passes : from (suc left) d k ≡ answerAt block i left (suc d) (consulting.along path i left d block)
+      passes : consult path i (suc left) d k ≡ answerAt block i left (suc d) (consulting.along path i left d block)
       passes =
-          consulting.consulted path i left d (k .due) (k .first) (k .hash) block refl (w .hashed)
-          (formed-means (k .due) (k .first) block .1 (w .formed))
+          consulting.consulted path i left d k block refl (w .hashed) (formed-means k block .1 (w .formed))
 
-      passes-ends : (e : Entry) → Ends block i e → from (suc left) d k ≡ known left (suc d) e
+      passes-ends : (e : Entry) → Ends block i e → consult path i (suc left) d k ≡ known left (suc d) e
       passes-ends e f =
-          passes ∙ ends-answer block i left (suc d) (consulting.along path i left d block) (k .due) (k .first) (w .formed) e f
+          passes ∙ ends-answer block i left (suc d) (consulting.along path i left d block) k (w .formed) e f
 
-      passes-leads : (j : ℕ) → Leads block i j → from (suc left) d k ≡ from left (suc d) (toChild block j)
+      passes-leads : (j : ℕ) → Leads block i j → consult path i (suc left) d k ≡ consult path i left (suc d) (toChild block j)
       passes-leads j l = passes ∙ leads-answer block i left (suc d) (consulting.along path i left d block) j l
 
-  says-from : (d : ℕ) (k : Link) (e : Entry) (left : ℕ) → d + left ≡ parts size path → Says path i d k e → from left d k ≡ accepted e
+  says-from : (d : ℕ) (k : Link) (e : Entry) (left : ℕ) → d + left ≡ parts size path → Says path i d k e → consult path i left d k ≡ accepted e
   says-from d k e zero h (ends w f l) = absurd (omega arith)
   says-from d k e (suc left) h (ends w f l) = let z : left ≡ 0 = omega arith in passes-ends left d k w e f ∙ rw z
   says-from d k e zero h (leads j w l s) = absurd (omega (arith, w .there))
@@ -122,7 +119,7 @@ module _ (path : List ℕ) (i : ℕ) where
       passes-leads left d k w j l ∙ says-from (suc d) (toChild (part size path d) j) e left (omega arith) s
 
   fails-from :
-      (d : ℕ) (k : Link) (n p left : ℕ) → d + left ≡ parts size path → Fails path i d k n p → from left d k ≡ refused n p 0
+      (d : ℕ) (k : Link) (n p left : ℕ) → d + left ≡ parts size path → Fails path i d k n p → consult path i left d k ≡ refused n p 0
   unfolding consult
   fails-from d k n p zero h (missing e) = refl
   fails-from d k n p (suc left) h (missing e) = absurd (omega arith)
@@ -132,7 +129,7 @@ module _ (path : List ℕ) (i : ℕ) where
   fails-from d k n p (suc left) h (malformed l e f) =
       let b : List ℕ = part size path d in
       fails-form left d k e
-      (not-holding (wellFormed (k .due) (k .first) b) (λ t. f (formed-means (k .due) (k .first) b .0 t)))
+      (not-holding (wellFormed k b) (λ t. f (formed-means k b .0 t)))
   fails-from d k n p zero h (left-over e w f l) = absurd (omega arith)
   fails-from d k n p (suc zero) h (left-over e w f l) = absurd (omega arith)
   fails-from d k n p (suc (suc left)) h (left-over e w f l) = passes-ends (suc left) d k w e f
@@ -153,7 +150,7 @@ module _ (path : List ℕ) (i : ℕ) where
       let hashed : sha256 b ≡ k .hash = same-true (sha256 b) (k .hash) e in
       ⊎-elim
       (λ f.
-      let w : Passes path d k = record { there = there; hashed = hashed; formed = formed-means (k .due) (k .first) b .0 f } in
+      let w : Passes path d k = record { there = there; hashed = hashed; formed = formed-means k b .0 f } in
       ⊎-elim
       (λ x.
       ⊎-elim (λ z. inl (x .0, ends w (x .1) (omega arith))) (λ l. inr (9, suc d, left-over (x .0) w (x .1) (omega arith)))
@@ -162,8 +159,8 @@ module _ (path : List ℕ) (i : ℕ) where
       ⊎-elim (λ s. inl (s .0, leads (x .0) w (x .1) (s .1))) (λ s. inr (s .0, s .1, later (x .0) w (x .1) (s .2)))
       (says-or-fails (suc d) (toChild b (x .0)) left (omega arith)))
       (ends-or-leads b i))
-      (λ f. inr (3, d, malformed there hashed (λ w. not-both (formed-means (k .due) (k .first) b .1 w) f)))
-      (bool-cases (wellFormed (k .due) (k .first) b)))
+      (λ f. inr (3, d, malformed there hashed (λ w. not-both (formed-means k b .1 w) f)))
+      (bool-cases (wellFormed k b)))
       (λ e. inr (8, d, wrong-hash there (same-false (sha256 b) (k .hash) e)))
       (bool-cases (same (sha256 b) (k .hash)))
 
@@ -188,7 +185,7 @@ module _ (handle : List ℕ) (i : ℕ) (path : List ℕ) where
       ))
 
   abbrev walk : Answer Entry
-  walk = from path i blocks 0 (toRoot handle)
+  walk = consult path i blocks 0 (toRoot handle)
 
   sized : Sizes handle path → lookup handle i path ≡ walk
   unfolding lookup
@@ -240,10 +237,3 @@ module _ (handle : List ℕ) (i : ℕ) (path : List ℕ) where
 
 pub lookup-means : LookupMeans
 lookup-means handle i path = (accepts handle i path, λ n p q. (why handle i path n p q, refuses handle i path n p q))
-
--- A child's first number is that of the slot that led to it.
-pub none-only-at-root : NoneOnlyAtRoot
-none-only-at-root b c i j l k w none =
-    let due : kind b - 1 ≡ 0 → ⊥ = λ z. omega arith in
-    let some : used c ≡ 0 → ⊥ = λ z. due (w .empty z .0) in
-    omega (arith, w .first-number due, l .at-most, none 0 (omega arith))

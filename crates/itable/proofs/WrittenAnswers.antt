@@ -4,7 +4,7 @@ use Prim.Native.Nat.{ℕ, suc, _+_, _-_, _*_, _/_, _≤_, _<_}
 use mathlib.Core.Bool.{true, _||_}
 use mathlib.Core.List.{List, [], _∷_}
 use mathlib.Core.Logic.{_⊎_, inl, inr, ⊎-elim}
-use mathlib.Core.Path.{_≡_, refl, sym, ap, subst, _∙_}
+use mathlib.Core.Path.{_≡_, refl, sym, ap, _∙_}
 use native.Mathlib.Decide.{decLe}
 use native.Mathlib.Omega.{arith}
 use lib.Dec.{leb, eqb}
@@ -13,12 +13,13 @@ use borrow.Author.Tests.{le-leb, eq-eqb}
 use Rattle.search.proofs.Bool.{left-true, right-true}
 use Rattle.refusal.specs.Answer.{accepted}
 use Rattle.sha256.specs.Sha256.{sha256}
-use Rattle.itable.specs.Block.{size, wellFormed}
+use Rattle.itable.specs.Block.{size, toRoot, wellFormed}
+use Rattle.itable.specs.declared.Link.{Link}
 use Rattle.itable.specs.Table.{Level, wide, usedIn, block, above, blocks, written, rootHash}
 use Rattle.itable.specs.Lookup.{entryOf, consult}
 use Rattle.itable.specs.Answers.{AllBelow, pathOf, WrittenAnswers}
 use Rattle.sha256.proofs.Laws.{sha256-length}
-use Rattle.itable.proofs.Block.{kind-block}
+use Rattle.itable.proofs.Block.{toBlock, kind-block}
 use Rattle.itable.proofs.Form.{root-form, child-form}
 use Rattle.itable.proofs.Cover.{cover, leaf-entry}
 use Rattle.itable.proofs.Consult.{along, consulted, answer-leaf}
@@ -35,8 +36,8 @@ module _ (T : Level) (i : ℕ) where
     pub some : 1 ≤ length indices
     pub few : length indices ≤ κ - 2
     pub finds :
-        (path : List ℕ) (d due first : ℕ) → wellFormed due first (block κ L (cover p)) ≡ true → Reads (written T) path d indices →
-        consult path i (length indices) d due first (sha256 (block κ L (cover p))) ≡ accepted (entryOf T i)
+        (path : List ℕ) (d : ℕ) (k : Link) → sha256 (block κ L (cover p)) ≡ k .hash → wellFormed k (block κ L (cover p)) ≡ true →
+        Reads (written T) path d indices → consult path i (length indices) d k ≡ accepted (entryOf T i)
 
   leaf-finds : (p : ℕ) → Tier T i 3 T p 0 → Finds 3 T p
   leaf-finds p a =
@@ -47,8 +48,8 @@ module _ (T : Level) (i : ℕ) where
         below = (a .stands .below (cover p) l, tt);
         some = omega arith;
         few = omega arith;
-        finds = λ path d due first f r.
-            consulted path i 0 d due first (sha256 b) b (r .0 ∙ a .stands .at (cover p) l) refl f ∙
+        finds = λ path d k e f r.
+            consulted path i 0 d k b (r .0 ∙ a .stands .at (cover p) l) e f ∙
             (answer-leaf b i 0 (suc d) (along path i 0 d b) (kind-block 3 T (cover p)) ∙
             ap accepted (leaf-entry T i p (a .place) (a .sized) 3 (a .ascends)));
       }
@@ -57,31 +58,33 @@ module _ (T : Level) (i : ℕ) where
       (κ : ℕ) (L : Level) (p base next : ℕ) → Tier T i κ L p base → Tier T i (suc κ) (above κ L) ((p + 15) / 16) next →
       0 < L .count → Finds κ L p → Finds (suc κ) (above κ L) ((p + 15) / 16)
   inner-finds κ L p base next a c pos x =
-      let l : cover ((p + 15) / 16) < wide (above κ L .count) = omega (arith, c .place .within) in
-      let b : List ℕ = block (suc κ) (above κ L) (cover ((p + 15) / 16)) in
+      let up : ℕ = cover ((p + 15) / 16) in
+      let l : up < wide (above κ L .count) = omega (arith, c .place .within) in
+      let b : List ℕ = block (suc κ) (above κ L) up in
       elim (decLe p 0) [
         | yes z ↦
             let o : p ≡ 0 = omega arith in
             record {
-              indices = (next + cover ((p + 15) / 16)) ∷ [];
-              below = (c .stands .below (cover ((p + 15) / 16)) l, tt);
+              indices = (next + up) ∷ [];
+              below = (c .stands .below up l, tt);
               some = omega arith;
               few = omega (arith, a .low);
-              finds = λ path d due first f r.
-                  consulted path i 0 d due first (sha256 b) b (r .0 ∙ c .stands .at (cover ((p + 15) / 16)) l) refl f ∙
+              finds = λ path d k e f r.
+                  consulted path i 0 d k b (r .0 ∙ c .stands .at up l) e f ∙
                   (none-leads κ L i p (a .place) pos (a .low) path 0 d o ∙ ap accepted (sym (a .none o)));
             }
         | no z ↦
             record {
-              indices = (next + cover ((p + 15) / 16)) ∷ x .indices;
-              below = (c .stands .below (cover ((p + 15) / 16)) l, x .below);
+              indices = (next + up) ∷ x .indices;
+              below = (c .stands .below up l, x .below);
               some = omega arith;
               few = omega (arith, a .low, x .few);
-              finds = λ path d due first f r.
-                  consulted path i (length (x .indices)) d due first (sha256 b) b (r .0 ∙ c .stands .at (cover ((p + 15) / 16)) l) refl f ∙
+              finds = λ path d k e f r.
+                  consulted path i (length (x .indices)) d k b (r .0 ∙ c .stands .at up l) e f ∙
                   (child-leads κ L i p (a .place) pos (a .low) path (length (x .indices)) d (omega arith) ∙
-                  x .finds path (suc d) κ (L .number (16 * cover p))
-                  (child-form L (a .sized) κ (cover p) (omega (arith, a .place .within)) (a .ascends) (omega (arith, a .low)) (omega (arith, a .place .within)))
+                  x .finds path (suc d) (toBlock κ L (cover p)) refl
+                  (child-form L (a .sized) κ (cover p) (omega (arith, a .place .within)) (a .ascends) (omega (arith, a .low))
+                  (omega (arith, a .place .within)))
                   (r .1));
             }
       ]
@@ -90,9 +93,11 @@ used-or-leaf : (u κ : ℕ) → (κ ≡ 3) ⊎ (0 < u) → (leb 1 u || eqb κ 3)
 used-or-leaf u κ (inl e) = right-true (leb 1 u) (eqb κ 3) (eq-eqb κ 3 e)
 used-or-leaf u κ (inr h) = left-true (leb 1 u) (eqb κ 3) (le-leb 1 u h)
 
-root-fits : {T : Level} {i : ℕ} {X : ℕ → Level → ℕ → Type 0} (r : Rooted T i X) → wellFormed 0 0 (block (r .κ) (r .L) (cover (r .p))) ≡ true
-root-fits r =
-    root-form (r .L) (r .tier .sized) (r .κ) (cover (r .p)) (omega (arith, r .tier .place .within)) 0 (r .tier .ascends)
+root-fits :
+    {T : Level} {i : ℕ} {X : ℕ → Level → ℕ → Type 0} (r : Rooted T i X) (handle : List ℕ) →
+    wellFormed (toRoot handle) (block (r .κ) (r .L) (cover (r .p))) ≡ true
+root-fits r handle =
+    root-form (r .L) (r .tier .sized) (r .κ) (cover (r .p)) (omega (arith, r .tier .place .within)) handle (r .tier .ascends)
     (r .tier .low) (r .high)
     (used-or-leaf (usedIn (r .L .count) (cover (r .p))) (r .κ)
     (⊎-elim (λ e. inl e) (λ g. inr (omega (arith, r .tier .place .within))) (r .filled)))
@@ -103,12 +108,14 @@ written-answers T t i =
     let n : ℕ = blocks (T .count) in
     let x : Finds T i (r .κ) (r .L) (r .p) = r .it in
     let l : size * n ≤ length (written T) = omega (arith, length-written T (t .sized)) in
+    let handle : List ℕ = rootHash (written T) n in
+    let path : List ℕ = pathOf (written T) (x .indices) in
     record {
       indices = x .indices;
       are-written = x .below;
       answers =
-          lookup-consults (rootHash (written T) n) i (pathOf (written T) (x .indices)) (length (x .indices)) (sha256-length _)
+          lookup-consults handle i path (length (x .indices)) (sha256-length _)
           (path-length (written T) n l (x .indices) (x .below)) (x .some) (omega (arith, x .few, r .high)) ∙
-          subst (λ b. consult (pathOf (written T) (x .indices)) i (length (x .indices)) 0 0 0 (sha256 b) ≡ accepted (entryOf T i)) (sym (r .is-root))
-          (x .finds (pathOf (written T) (x .indices)) 0 0 0 (root-fits r) (path-reads (written T) n l (x .indices) (x .below) [] 0 refl));
+          x .finds path 0 (toRoot handle) (ap sha256 (sym (r .is-root))) (root-fits r handle)
+          (path-reads (written T) n l (x .indices) (x .below) [] 0 refl);
     }
