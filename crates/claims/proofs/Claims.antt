@@ -16,7 +16,7 @@ use Rattle.protocol.proofs.CommitsCounted.{commits-counted}
 use Rattle.protocol.proofs.ListingsAscend.{listings-ascend}
 use Rattle.itable.proofs.LookupMeans.{lookup-means}
 use Rattle.itable.proofs.NoneOnlyAtRoot.{none-only-at-root}
-use Rattle.itable.proofs.InodeMeaning.{block-check-means}
+use Rattle.itable.proofs.BlockCheckMeans.{block-check-means}
 use Rattle.itable.proofs.EntryMeans.{entry-means}
 use Rattle.itable.proofs.WrittenAnswers.{written-answers}
 use Rattle.itable.proofs.OtherwiseCollides.{otherwise-collides}

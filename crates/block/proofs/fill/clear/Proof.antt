@@ -6,9 +6,9 @@ use mathlib.Core.Path.{_≡_, sym, ap, _∙_}
 use native.Mathlib.Omega.{arith}
 use lib.ListN.{length, take, replicate, length-set}
 use lib.Seq.{take-all}
-use Rattle.writer.proofs.Bytes.{uncleared, cleared}
-use Rattle.writer.proofs.block.clear.Statement.{statement}
-use Rattle.writer.proofs.block.clear.Tie as tie
+use Rattle.block.proofs.Filling.{uncleared, cleared}
+use Rattle.block.proofs.fill.clear.Statement.{statement}
+use Rattle.block.proofs.fill.clear.Tie as tie
 
 abbrev Inv-loop : tie.InvT-loop
 Inv-loop from out₀ i₀ out i =
@@ -30,22 +30,24 @@ loop-less : tie.Need-loop-less Inv-loop μ-loop
 loop-less c = simp length-set (omega arith)
 
 loop-again : tie.Need-loop-again Inv-loop μ-loop
-loop-again c = (
-  omega arith,
-  simp length-set (omega arith),
-  simp length-set (omega arith),
-  cleared _ _ _ _ (c .before .loop .inv .0) (c .loop-test .taken) (c .before .loop .inv .3),
-)
+loop-again c =
+    let l = c .before .loop in (
+      omega arith,
+      simp length-set (omega arith),
+      simp length-set (omega arith),
+      cleared _ _ _ _ (l .inv .0) (c .loop-test .taken) (l .inv .3),
+    )
 
 same-length : tie.Need-same-length Inv-loop μ-loop
 same-length c = omega arith
 
 returns : tie.Need-returns Inv-loop μ-loop
 returns c =
-    let e : c .before .loop .i ≡ length (c .before .before .args .out .now) = omega arith in
-    sym (take-all (c .before .loop .i) (c .before .loop .out) (omega arith)) ∙
-    (c .before .loop .inv .3 ∙
-    ap (λ n. take (c .before .before .args .from) (c .before .before .args .out .now) ++ replicate (n - c .before .before .args .from) 0) e)
+    let l = c .before .loop in
+    let a = c .before .before .args in
+    let e : l .i ≡ length (a .out .now) = omega arith in
+    sym (take-all (l .i) (l .out) (omega arith)) ∙
+    (l .inv .3 ∙ ap (λ n. take (a .from) (a .out .now) ++ replicate (n - a .from) 0) e)
 
 pub clear-spec : {M : Type 1} → statement M
 clear-spec =

@@ -1,4 +1,5 @@
--- The check of a file's block means what InodeMeaning says: each of its tests decides one condition.
+-- The check of a file's block means what InodeMeaning says: each of its tests decides one condition. What is about hashes is over their place and
+-- number.
 use Prim.Native.Nat.{ℕ, _+_, _-_, _*_, _/_, _%_, _≤_, _<_}
 use mathlib.Core.Bool.{Bool, true, _&&_}
 use mathlib.Core.List.{List, [], _∷_, _++_}
@@ -6,7 +7,7 @@ use mathlib.Core.Logic.{_↔_, inl, inr, ⊎-elim}
 use mathlib.Core.Path.{_≡_, refl, sym, ap, ap₂, _∙_}
 use native.Mathlib.Decide.{decLe}
 use native.Mathlib.Omega.{arith}
-use lib.Dec.{leb, ltb, eqb}
+use lib.Dec.{ltb, eqb}
 use lib.ListN.{length, getD}
 use borrow.Author.Tests.{leb-true, ltb-true, eqb-true, le-leb, lt-ltb, eq-eqb}
 use Rattle.layout.specs.Strings.{same, zeros}
@@ -14,52 +15,57 @@ use Rattle.search.proofs.Bool.{both-true}
 use Rattle.search.proofs.Search.{every-at, every-intro}
 use Rattle.layout.proofs.Strings.{same-true, same-refl}
 use Rattle.refusal.specs.Answer.{accepted}
+use Rattle.refusal.specs.Order.{Step}
 use Rattle.refusal.proofs.Means.{Means, Stage, Either, Unless, alike, means-accepted, means-refused, in-append, and-then, concludes, tests-mean, test-means}
 use Rattle.sha256.specs.Sha256.{sha256}
-use Rattle.itable.specs.Inode.{fileBlocks, blockLength, hashAt, restZero, holds, inodeSize, fileLength, wellFormed, Span, inodeSteps, blockSteps, blockCheck}
-use Rattle.itable.specs.InodeMeaning.{Sizes, Named, WellFormed, HasBlock, BlockSize, BlockNamed, ToNamed, ToFormed, ToBlock, ToBlockSize, AllConditions, Why, lengths, not-named, not-formed, no-block, block-length, block-not-named, BlockCheckMeans}
+use Rattle.itable.specs.Inode.{fileBlocks, blockLength, hashAt, restZero, holds, inodeSize, fileLength, wellFormed, Span}
+use Rattle.itable.specs.Inode.{inodeSteps, indexSteps, blockSteps, blockCheck}
+use Rattle.itable.specs.InodeMeaning.{Sizes, Named, RestZero, WellFormed, HasBlock, BlockSize, BlockNamed}
+use Rattle.itable.specs.InodeMeaning.{ToNamed, ToFormed, ToBlock, ToBlockSize, AllConditions, Why, BlockCheckMeans}
+use Rattle.itable.specs.InodeMeaning.{lengths, not-named, not-formed, no-block, block-length, block-not-named}
 
 same-means : (xs ys : List ℕ) → (same xs ys ≡ true) ↔ (xs ≡ ys)
 same-means xs ys = (same-true xs ys, λ e. rw e (same-refl ys))
 
--- Zero bytes from hash m on are zero bytes of each hash from m on.
-rest-means :
-    (b : List ℕ) (len : ℕ) → len ≤ 131072 →
-    (restZero b 5 16 (fileBlocks len) ≡ true) ↔ ((k j : ℕ) → k < 16 → len ≤ 8192 * k → j < 32 → getD b (5 + 32 * k + j) 0 ≡ 0)
+-- A length that n hashes can name, and zero bytes of each hash from the last block's on.
+pub holds-means : (n len : ℕ) → (holds n len ≡ true) ↔ (len ≤ 8192 * n)
+unfolding holds
+holds-means n len = (leb-true len (8192 * n), le-leb len (8192 * n))
+
+rest-means : (b : List ℕ) (at n len : ℕ) → (restZero b at n (fileBlocks len) ≡ true) ↔ RestZero b at n len
 unfolding restZero zeros
-rest-means b len few =
+rest-means b at n len =
     let zero : ℕ → Bool = λ x. eqb (getD b x 0) 0 in
-    let from : ℕ = 5 + 32 * fileBlocks len in
-    let n : ℕ = 32 * (16 - fileBlocks len) in (
-      λ e k j l h i. eqb-true (getD b (5 + 32 * k + j) 0) 0 (every-at zero from n e (5 + 32 * k + j) (omega arith) (omega arith)),
+    let from : ℕ = at + 32 * fileBlocks len in
+    let m : ℕ = 32 * (n - fileBlocks len) in (
+      λ e k j l h i. eqb-true (getD b (at + 32 * k + j) 0) 0 (every-at zero from m e (at + 32 * k + j) (omega arith) (omega arith)),
       λ f.
-          every-intro zero from n
+          every-intro zero from m
           (λ x l h.
-          let k : ℕ = (x - 5) / 32 in
-          let j : ℕ = (x - 5) % 32 in
-          let e : 5 + 32 * k + j ≡ x = omega arith in
+          let k : ℕ = (x - at) / 32 in
+          let j : ℕ = (x - at) % 32 in
+          let e : at + 32 * k + j ≡ x = omega arith in
           eq-eqb (getD b x 0) 0 (rw e at (f k j (omega arith) (omega arith) (omega arith)))),
     )
 
-formed-means : (inode : List ℕ) → (wellFormed inode ≡ true) ↔ WellFormed inode
-unfolding wellFormed holds
+pub formed-means : (inode : List ℕ) → (wellFormed inode ≡ true) ↔ WellFormed inode
+unfolding wellFormed
 formed-means inode =
     let len : ℕ = fileLength inode in
     let rest : Bool = restZero inode 5 16 (fileBlocks len) in (
       λ e.
-          let p = both-true (eqb (getD inode 0 0) 6) (leb len (8192 * 16) && rest) e in
-          let q = both-true (leb len (8192 * 16)) rest (p .1) in
-          let few : len ≤ 131072 = leb-true len (8192 * 16) (q .0) in
+          let p = both-true (eqb (getD inode 0 0) 6) (holds 16 len && rest) e in
+          let q = both-true (holds 16 len) rest (p .1) in
           record {
             kind-six = eqb-true (getD inode 0 0) 6 (p .0);
-            at-most = few;
-            rest-zero = rest-means inode len few .0 (q .1);
+            at-most = holds-means 16 len .0 (q .0);
+            rest-zero = rest-means inode 5 16 len .0 (q .1);
           },
       λ w.
           rw (
             eq-eqb (getD inode 0 0) 6 (w .kind-six),
-            le-leb len (8192 * 16) (w .at-most),
-            rest-means inode len (w .at-most) .1 (w .rest-zero),
+            holds-means 16 len .1 (w .at-most),
+            rest-means inode 5 16 len .1 (w .rest-zero),
           ),
     )
 
@@ -108,8 +114,14 @@ module _ (handle inode : List ℕ) (k : ℕ) (block : List ℕ) where
       (λ t. (eqb-true (length handle) 32 (t .0), eqb-true (length inode) inodeSize (t .1 .0)))
       (λ w. (eq-eqb (length handle) 32 (w .0), (eq-eqb (length inode) inodeSize (w .1), tt)))
 
-  all-stages : Stage (inodeSteps handle inode ++ blockSteps inode k block) (AllConditions handle inode k block) Given
-  unfolding inodeSteps blockSteps
+  abbrev steps-of-block : List Step
+  steps-of-block = blockSteps (fileLength inode) k (hashAt inode 5 k) block
+
+  abbrev steps-behind-inode : List Step
+  steps-behind-inode = indexSteps (fileLength inode) k ++ steps-of-block
+
+  all-stages : Stage (inodeSteps handle inode ++ steps-behind-inode) (AllConditions handle inode k block) Given
+  unfolding inodeSteps indexSteps blockSteps
   all-stages =
       and-then _ _
       (and-then _ _
@@ -124,8 +136,8 @@ module _ (handle inode : List ℕ) (k : ℕ) (block : List ℕ) where
   check-stages : Means (blockCheck handle inode k block) span (AllConditions handle inode k block) Given
   unfolding blockCheck
   check-stages =
-      rw (in-append (inodeSteps handle inode) (blockSteps inode k block) (accepted span)) at
-      (concludes (inodeSteps handle inode ++ blockSteps inode k block) all-stages span)
+      rw (in-append (inodeSteps handle inode) steps-behind-inode (accepted span), in-append (indexSteps (fileLength inode) k) steps-of-block (accepted span)) at
+      (concludes (inodeSteps handle inode ++ steps-behind-inode) all-stages span)
 
   why-given : (n p q : ℕ) → Given n p q → Why handle inode k block n p q
   why-given n p q =

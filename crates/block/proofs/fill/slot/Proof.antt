@@ -1,8 +1,8 @@
 -- Both copies, end to end, leave nothing of the 40 bytes.
-use Rattle.writer.proofs.Bytes.{slot-is}
+use Rattle.block.proofs.Filling.{slot-is}
 use borrow.Author.Needs.{needs}
-use Rattle.writer.proofs.block.slot.Statement.{statement}
-use Rattle.writer.proofs.block.slot.Tie as tie
+use Rattle.block.proofs.fill.slot.Statement.{statement}
+use Rattle.block.proofs.fill.slot.Tie as tie
 
 u64-bytes-requires : tie.Need-u64-bytes-requires
 u64-bytes-requires c κs = search needs
@@ -30,7 +30,11 @@ same-length c = search needs
 
 returns : tie.Need-returns
 returns c =
-    slot-is _ _ (c .before .before .before .before .before .before .before .before .before .before .before .before .args .out .now) _ (c .before .before .before .before .before .before .before .before .before .before .before .before .pre .0) (c .before .before .before .before .before .before .before .before .before .before .before .before .pre .1) (c .before .before .before .before .before .before .before .before .before .u64-bytes .ensures) _ _ (c .before .before .before .before .before .before .copy .ensures .1) (c .before .before .copy2 .ensures .1)
+    let f = c .before .before .before .before .before .before in
+    let n = f .before .before .before in
+    let s = n .before .before .before in
+    slot-is _ _ (s .args .out .now) _ (s .pre .0) (s .pre .1) (n .u64-bytes .ensures) _ _ (f .copy .ensures .1)
+    (c .before .before .copy2 .ensures .1)
 
 pub slot-spec : {M : Type 1} → statement M
 slot-spec =

@@ -6,9 +6,9 @@ use mathlib.Core.Path.{_≡_, refl}
 use native.Mathlib.Omega.{arith}
 use lib.ListN.{length, take, length-set}
 use Rattle.itable.specs.Table.{files, slots}
-use Rattle.writer.proofs.Blocks.{fill-none, fill-next, fill-all}
-use Rattle.writer.proofs.block.fill.Statement.{statement}
-use Rattle.writer.proofs.block.fill.Tie as tie
+use Rattle.block.proofs.Filling.{fill-none, fill-next, fill-all}
+use Rattle.block.proofs.fill.entries.Statement.{statement}
+use Rattle.block.proofs.fill.entries.Tie as tie
 
 abbrev Inv-loop : tie.InvT-loop
 Inv-loop kind numbers values out₀ u j₀ out j =
@@ -28,7 +28,9 @@ slice-write-out-2 c = simp length-set (omega arith)
 
 loop-holds : tie.Need-loop-holds Inv-loop μ-loop
 loop-holds c =
-    let r = fill-none (c .before .before .before .args .kind) (c .before .before .before .args .numbers .now) (c .before .before .before .args .values .now) (c .before .before .before .pre .0) (c .before .before .before .pre .1) (c .before .before .before .args .out .now) (c .before .before .before .pre .2) in (refl, omega arith, r .0, r .1)
+    let s = c .before .before .before in
+    let r = fill-none (s .args .kind) (s .args .numbers .now) (s .args .values .now) (s .pre .0) (s .pre .1) (s .args .out .now) (s .pre .2) in
+    (refl, omega arith, r .0, r .1)
 
 mul-from : tie.Need-mul-from Inv-loop μ-loop
 mul-from c = omega arith
@@ -80,9 +82,13 @@ loop-less c = omega arith
 
 loop-again : tie.Need-loop-again Inv-loop μ-loop
 loop-again c =
+    let t = c .before .before .before .before .before .before in
+    let l = t .before .loop in
+    let s = t .before .before .before .before .before in
     let r =
-    fill-next _ (c .before .before .before .before .before .before .before .before .before .before .before .args .numbers .now) (c .before .before .before .before .before .before .before .before .before .before .before .args .values .now) (c .before .before .before .before .before .before .before .before .before .before .before .pre .0) (c .before .before .before .before .before .before .before .before .before .before .before .pre .1) (c .before .before .before .before .before .before .before .loop .out) _ (c .before .before .before .before .before .before .before .loop .j) (c .before .before .before .before .before .before .before .loop .inv .2) (c .before .before .before .before .before .before .loop-test .taken) (c .before .before .before .before .before .before .before .loop .inv .3)
-    (c .before .before .slot .ensures) in (c .before .before .before .before .before .before .before .loop .inv .0, omega arith, r .0, r .1)
+    fill-next _ (s .args .numbers .now) (s .args .values .now) (s .pre .0) (s .pre .1) (l .out) _ (l .j) (l .inv .2) (t .loop-test .taken)
+    (l .inv .3) (c .before .before .slot .ensures) in
+    (l .inv .0, omega arith, r .0, r .1)
 
 mul-clear : tie.Need-mul-clear Inv-loop μ-loop
 mul-clear c = omega arith
@@ -98,11 +104,14 @@ same-length c = omega arith
 
 returns : tie.Need-returns Inv-loop μ-loop
 returns c =
-    let e : c .before .before .before .before .before .loop .j ≡ length (c .before .before .before .before .before .before .before .before .before .args .numbers .now) = omega arith in
-    fill-all _ _ _ (c .before .before .before .before .before .before .before .before .before .pre .0) (c .before .before .before .before .before .before .before .before .before .pre .1) _ _ (c .before .before .before .before .before .loop .inv .2) (rw e at (c .before .before .before .before .before .loop .inv .3)) (c .before .before .clear .ensures)
+    let p = c .before .before .before .before .before in
+    let l = p .loop in
+    let s = p .before .before .before .before in
+    let e : l .j ≡ length (s .args .numbers .now) = omega arith in
+    fill-all _ _ _ (s .pre .0) (s .pre .1) _ _ (l .inv .2) (rw e at (l .inv .3)) (c .before .before .clear .ensures)
 
-pub fill-spec : {M : Type 1} → statement M
-fill-spec =
+pub entries-spec : {M : Type 1} → statement M
+entries-spec =
     tie.close
     (tie.spec
     Inv-loop
