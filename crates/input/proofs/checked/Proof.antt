@@ -70,7 +70,8 @@ slice-aggregate-ask-2 c =
 
 ask-requires : tie.Need-ask-requires
 ask-requires c κs =
-    let start = c .before .before .before .before .before .before .before .before in omega (arith, form-facts _ (start .before .before .before .pre) .remembered)
+    let start = c .before .before .before .before .before .before .before .before in
+    let s = start .before .before .before in omega (arith, form-facts _ (s .pre) .remembered)
 
 returns : tie.Need-returns
 returns c =

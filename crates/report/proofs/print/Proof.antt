@@ -20,8 +20,8 @@ report-requires c κs = search needs
 
 returns : tie.Need-returns
 returns c =
-    let s = c .before .before .before .before .before .before .before in
     let l = c .before .before in
+    let s = l .before .before .before .before .before in
     let p = rw (report-printed _ _ (l .before .before .judge .ensures)) at (l .report .ensures .0) in
     let r = no-room (s .args .input .now) _ _ (s .args .out .now) _ p (omega arith) in
     (r .0, (r .1, omega (arith, p .ends, l .report .ensures .1)))
@@ -34,17 +34,15 @@ slice-aggregate-copy c =
     let l = c .before .before .before .report in sym (length-take-le _ _ (omega (arith, l .ensures .0 .long, l .ensures .1)))
 
 copy-requires : tie.Need-copy-requires
-copy-requires c κs =
-    let l = c .before .before .before .before .report in
-    simp length-take (omega arith)
+copy-requires c κs = simp length-take (omega arith)
 
 same-length : tie.Need-same-length
 same-length c = search needs
 
 returns-2 : tie.Need-returns-2
 returns-2 c =
-    let s = c .before .before .before .before .before .before .before .before .before .before .before .before in
     let l = c .before .before .before .before .before .before .before in
+    let s = l .before .before .before .before .before in
     let p = rw (report-printed _ _ (l .before .before .judge .ensures)) at (l .report .ensures .0) in
     let r = room (s .args .input .now) _ _ (s .args .out .now) _ p _ (omega arith) (c .before .before .copy .ensures .1) in
     (r .0, (r .1, omega (arith, p .ends, l .report .ensures .1)))

@@ -1,5 +1,4 @@
--- Each part is written behind the one before it, and the numbers are those that the refusal's row tells. There is no
--- loop.
+-- Each part is written behind the one before it, and the numbers are those that the refusal's row tells. There is no loop.
 use native.Mathlib.Omega.{arith}
 use borrow.Author.Needs.{needs}
 use Rattle.report.specs.Printed.{refuseLine}
@@ -45,12 +44,13 @@ returns c =
     let second = third .before .before .before .before in
     let first = second .before .before .before .before in
     let word = first .before .before .before .before .before in
+    let told = word .before .before .before in
     let n = first .number .ensures in
     let p = second .number2 .ensures in
     let q = third .number3 .ensures in
     let end = c .before .before .put2 .ensures in (
       λ N.
-          rw (same-row (word .before .before .before .before .before .args .refusal) _ _ _ (word .before .before .before .tell .ensures))
+          rw (same-row (told .before .before .args .refusal) _ _ _ (told .tell .ensures))
           (appended-more (appended-more (appended-more (appended-more (word .put .ensures) (n .0)) (p .0)) (q .0)) end),
       omega (arith, end .ends, q .1, p .1, n .1, word .put .ensures .ends),
     )
