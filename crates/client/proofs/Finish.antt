@@ -20,7 +20,7 @@ use Rattle.protocol.specs.Version.{owner, structure}
 use Rattle.protocol.specs.List.{records, recordAt}
 use Rattle.protocol.specs.Check.{sizeSteps, formSteps, orderSteps, next, check}
 use Rattle.protocol.specs.Meaning.{Users, Sizes}
-use Rattle.client.specs.Stages.{nextCounts}
+use Rattle.client.specs.Internal.Stages.{nextCounts}
 use Rattle.client.proofs.Judged.{written-next}
 use Rattle.client.proofs.Lengths.{call, sizes-mean}
 use Rattle.client.proofs.Placed.{owners-below}
@@ -28,6 +28,20 @@ use Rattle.client.proofs.Placed.{owners-below}
 -- Which way a stage's answer went.
 abbrev pub Went : ℕ → Check → Type 0
 Went k c = OneOf (k ∷ []) (tagOf the-type c)
+
+-- What holds behind the first stage, and behind the second.
+module _ (N u : ℕ) (mem list marks handle : List ℕ) (room : ℕ) (s : Check) where
+  module _ (es : said s ≡ tried (sizeSteps N u mem list marks handle room)) (ps : Went 0 s) where
+    pub sized : Users N u × Sizes N mem (call N u mem list marks handle room)
+    sized = means-accepted (sizes-mean N u mem list marks handle room) (sym es ∙ ap said (was-passed s ps)) .0
+
+    pub small : (u < 16) × (records list ≤ 16)
+    small = let t = sized .0 in let z = sized .1 in (omega arith, omega arith)
+
+    pub owned :
+        (f : Check) → said f ≡ tried (formSteps N u mem list marks) → Went 0 f → (i : ℕ) → i < records list → owner (recordAt list i) < 16
+    owned f ef pf i h =
+        let b = owners-below N u mem list marks (sym ef ∙ ap said (was-passed f pf)) i h in let t = sized .0 in omega arith
 
 module _ (N u : ℕ) (mem list marks handle out : List ℕ) where
   abbrev due : Answer (List ℕ)
@@ -42,11 +56,8 @@ module _ (N u : ℕ) (mem list marks handle out : List ℕ) where
     sizes-refuse h = let w = was-refused s h in gives-refused (stage-refused _ s es _ (w .1)) (w .1)
 
     module _ (ps : Went 0 s) where
-      pub sized : Users N u × Sizes N mem (call N u mem list marks handle (length out))
-      sized = means-accepted (sizes-mean N u mem list marks handle (length out)) (sym es ∙ ap said (was-passed s ps)) .0
-
-      pub small : (u < 16) × (records list ≤ 16)
-      small = let t = sized .0 in let z = sized .1 in (omega arith, omega arith)
+      handle-long : length handle ≡ 32
+      handle-long = sized N u mem list marks handle (length out) s es ps .1 .handle-long
 
       module _ (f : Check) (ef : said f ≡ tried (formSteps N u mem list marks)) where
         pub forms-refuse : Went 1 f → Gives due out out f
@@ -56,10 +67,6 @@ module _ (N u : ℕ) (mem list marks handle out : List ℕ) where
             gives-refused (stage-passed _ s es _ (was-passed s ps) ∙ stage-refused _ f ef _ (w .1)) (w .1)
 
         module _ (pf : Went 0 f) where
-          pub owned : (i : ℕ) → i < records list → owner (recordAt list i) < 16
-          owned i h =
-              let b = owners-below N u mem list marks (sym ef ∙ ap said (was-passed f pf)) i h in let t = sized .0 in omega arith
-
           module _ (o : Check) (eo : (h : List ℕ) → length h ≡ 32 → said o ≡ tried (orderSteps u mem list (next u mem list h))) where
             pub order-refuse : Went 1 o → Gives due out out o
             unfolding check
@@ -67,7 +74,7 @@ module _ (N u : ℕ) (mem list marks handle out : List ℕ) where
                 let w = was-refused o h in
                 gives-refused
                 (stage-passed _ s es _ (was-passed s ps) ∙
-                (stage-passed _ f ef _ (was-passed f pf) ∙ stage-refused _ o (eo handle (sized .1 .handle-long)) _ (w .1)))
+                (stage-passed _ f ef _ (was-passed f pf) ∙ stage-refused _ o (eo handle handle-long) _ (w .1)))
                 (w .1)
 
             module _ (po : Went 0 o) where
@@ -75,7 +82,7 @@ module _ (N u : ℕ) (mem list marks handle out : List ℕ) where
               unfolding check
               all-passed =
                   stage-passed _ s es _ (was-passed s ps) ∙
-                  (stage-passed _ f ef _ (was-passed f pf) ∙ stage-passed _ o (eo handle (sized .1 .handle-long)) _ (was-passed o po))
+                  (stage-passed _ f ef _ (was-passed f pf) ∙ stage-passed _ o (eo handle handle-long) _ (was-passed o po))
 
               pub writes :
                   (counts after : List ℕ) → (said o ≡ accepted tt → counts ≡ nextCounts u mem list) →

@@ -15,7 +15,7 @@ use Rattle.protocol.specs.Version.{count, counts, structure}
 use Rattle.protocol.specs.Check.{lastCount, nextCount, next, current, pairStep, orderSteps}
 use Rattle.protocol.proofs.Version.{count-structure}
 use Rattle.version.specs.Version.{fields}
-use Rattle.client.specs.Stages.{nextCounts}
+use Rattle.client.specs.Internal.Stages.{nextCounts}
 
 module _ (u : ℕ) (mem list handle : List ℕ) where
   abbrev due : Answer Unit

@@ -2,7 +2,6 @@ pub mod Apart
 pub mod Finish
 pub mod Judged
 pub mod Lengths
+pub mod Lent
 pub mod Placed
-pub mod Records
 pub mod Tally
-pub mod Written

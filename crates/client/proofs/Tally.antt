@@ -20,7 +20,7 @@ use Rattle.layout.proofs.Values.{length-values, getD-values}
 use Rattle.protocol.specs.Version.{owner, count}
 use Rattle.protocol.specs.List.{records, recordAt, entry}
 use Rattle.protocol.specs.Check.{nextCount}
-use Rattle.client.specs.Stages.{nextCounts}
+use Rattle.client.specs.Internal.Stages.{nextCounts}
 
 module _ (list : List ℕ) where
   abbrev owns : ℕ → ℕ → Bool
@@ -36,10 +36,12 @@ module _ (list : List ℕ) where
       let z : records list - records list ≡ 0 = omega arith in
       rw (z, part-past 98 list (records list) (omega arith), four-past [] (34 + 4 * v) (omega arith)) (getD-replicate {A = ℕ} 16 v 0 0 h)
 
-  module _ (cs : List ℕ) (i o x : ℕ) (h : i < records list) (l : length cs ≡ 16) (e : owner (recordAt list i) ≡ o) (lo : o < 16) (ex : x ≡ count (recordAt list i) o) where
-    pub one-passed : ((v : ℕ) → v < 16 → getD cs v 0 ≡ ownFrom (i + 1) v) → (v : ℕ) → v < 16 → getD (set cs o x) v 0 ≡ ownFrom i v
+  module _ (cs : List ℕ) (i o x : ℕ) (h : i < records list) (l : length cs ≡ 16) where
+    pub one-passed :
+        owner (recordAt list i) ≡ o → o < 16 → x ≡ count (recordAt list i) o → ((v : ℕ) → v < 16 → getD cs v 0 ≡ ownFrom (i + 1) v) →
+        (v : ℕ) → v < 16 → getD (set cs o x) v 0 ≡ ownFrom i v
     unfolding find
-    one-passed below v lv =
+    one-passed e lo ex below v lv =
         ⊎-elim
         (λ t.
         let q : o ≡ v = sym e ∙ eqb-true (owner (recordAt list i)) v t in
@@ -57,7 +59,8 @@ module _ (list : List ℕ) where
       ((v : ℕ) → v < 16 → getD cs v 0 ≡ ownFrom 0 v) → set cs u x ≡ nextCounts u mem list
   unfolding nextCounts entry
   all-passed u mem cs x l lu ex below =
-      ext-getD 0 (set cs u x) _ (length-set cs u x ∙ (l ∙ sym (length-values f 0 16))) (λ v h. here v (omega (arith, length-set cs u x)) ∙ sym (at v (omega (arith, length-set cs u x))))
+      ext-getD 0 (set cs u x) _ (length-set cs u x ∙ (l ∙ sym (length-values f 0 16)))
+      (λ v h. let k : v < 16 = omega (arith, length-set cs u x) in here v k ∙ sym (at v k))
     where
       f : ℕ → ℕ
       f = nextCount u mem list

@@ -1,21 +1,22 @@
 // The second stage: refusals 3 and 4, which look at each record and each mark by itself.
 ghost use mathlib.Core.Path.{_≡_};
 ghost use mathlib.Core.Bool.{not};
-ghost use mathlib.Core.Logic.{_⊎_};
 ghost use Prim.Native.Nat.{_+_, _*_, _≤_};
 ghost use lib.Dec.{eqb};
 ghost use lib.ListN.{length, getD};
 ghost use Rattle.search.specs.Search.{find};
 ghost use Rattle.refusal.specs.Order.{tried};
 ghost use Rattle.refusal.specs.Refusal.{said};
-ghost use Rattle.protocol.specs.List.{records, wellPlaced};
+ghost use Rattle.protocol.specs.Version.{size};
+ghost use Rattle.protocol.specs.List.{records as recordsOf, wellPlaced};
 ghost use Rattle.protocol.specs.Check.{formSteps, remembers};
+use crate::records;
 use refusal::Check;
 use refusal::Refusal;
+use version::SIZE;
 
 // Whether there is no current structure, or it is well formed and the user's own.
 fn remembered(users: u8, user: u8, memory: &[u8]) -> bool
-    requires { ⌜ (length (now memory) ≡ 0) ⊎ (length (now memory) ≡ 98) ⌝ }
     ensures { λ r. ⌜ r ≡ remembers users user (now (memory .entry)) ⌝ }
 {
     if memory.len() == 0 {
@@ -24,26 +25,26 @@ fn remembered(users: u8, user: u8, memory: &[u8]) -> bool
     if !version::well_formed(users, memory) {
         return false;
     }
-    memory[1] == user
+    version::owner(memory) == user
 }
 
 // Whether record i is well formed and its owner above the one before.
 fn well_placed(users: u8, list: &[u8], i: usize) -> bool
-    requires { ⌜ 98 * i + 98 ≤ length (now list) ⌝ }
+    requires { ⌜ size * i + size ≤ length (now list) ⌝ }
     ensures { λ r. ⌜ r ≡ wellPlaced users (now (list .entry)) i ⌝ }
 {
-    if !version::well_formed(users, &list[98 * i..98 * i + 98]) {
+    if !version::well_formed(users, &list[SIZE * i..SIZE * i + SIZE]) {
         return false;
     }
     if i == 0 {
         return true;
     }
-    list[98 * i - 97] < list[98 * i + 1]
+    records::owner(list, i - 1) < records::owner(list, i)
 }
 
 // The first record that is not well placed; the number of records if all are.
 fn first_misplaced(users: u8, list: &[u8], count: usize) -> usize
-    requires { ⌜ 98 * count ≤ length (now list) ⌝ }
+    requires { ⌜ size * count ≤ length (now list) ⌝ }
     ensures { λ r. ⌜ r ≡ find (λ i. not (wellPlaced users (now (list .entry)) i)) 0 count ⌝ }
 {
     let mut i = 0;
@@ -71,8 +72,7 @@ fn first_unmarked(marks: &[u8]) -> usize
 }
 
 pub(crate) fn forms(users: u8, user: u8, memory: &[u8], list: &[u8], marks: &[u8]) -> Check
-    requires { ⌜ (length (now memory) ≡ 0) ⊎ (length (now memory) ≡ 98) ⌝ }
-    requires { ⌜ length (now marks) ≡ records (now list) ⌝ }
+    requires { ⌜ length (now marks) ≡ recordsOf (now list) ⌝ }
     ensures { λ r. ⌜ said r ≡ tried (formSteps users user (now (memory .entry)) (now (list .entry)) (now (marks .entry))) ⌝ }
 {
     if !remembered(users, user, memory) {

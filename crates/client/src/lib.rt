@@ -7,6 +7,7 @@
 mod forms;
 mod next;
 mod order;
+mod records;
 mod sizes;
 
 ghost use lib.ListN.{length};
@@ -30,7 +31,11 @@ pub fn check(
     handle: &[u8],
     out: &mut [u8],
 ) -> Check
-    ensures { λ r. ⌜ Gives (checkOf users user (now (memory .entry)) (now (list .entry)) (now (marks .entry)) (now (handle .entry)) (length (now (out .entry)))) (now (out .entry)) (now (out .exit)) r ⌝ }
+    ensures { λ r. ⌜
+        Gives
+        (checkOf users user (now (memory .entry)) (now (list .entry)) (now (marks .entry)) (now (handle .entry)) (length (now (out .entry))))
+        (now (out .entry)) (now (out .exit)) r
+        ⌝ }
 {
     let s = sizes::sizes(users, user, memory, list, marks, handle, out.len());
     let Check::Passed = s else {

@@ -1,60 +1,42 @@
 // The client's next version structure: its counts, and its bytes.
 ghost use mathlib.Core.Path.{_≡_};
 ghost use Prim.Native.Nat.{ℕ, _+_, _*_, _<_};
-ghost use lib.ListN.{length, getD};
-ghost use Rattle.layout.specs.Bytes.{bytes4};
-ghost use Rattle.protocol.specs.Version.{owner, count, counts as countsOf, structure};
-ghost use Rattle.protocol.specs.List.{records, recordAt};
+ghost use lib.ListN.{length};
+ghost use Rattle.protocol.specs.Version.{size, owner, count, structure};
+ghost use Rattle.protocol.specs.List.{records as recordsOf, recordAt};
 ghost use Rattle.protocol.specs.Check.{lastCount};
-ghost use Rattle.client.specs.Stages.{nextCounts};
+ghost use Rattle.version.specs.Version.{countIn};
+ghost use Rattle.client.specs.Internal.Stages.{nextCounts};
+use crate::records;
+use version::SIZE;
 
 // The counts of the next structure. The records are gone through from the last to the first, so
 // that an owner's first record is the one that stays.
 pub(crate) fn counts(user: u8, memory: &[u8], list: &[u8]) -> [u32; 16]
     requires { ⌜ user < 16 ⌝ }
     requires { ⌜ count (now memory) user < lastCount ⌝ }
-    requires { ⌜ 98 * records (now list) ≡ length (now list) ⌝ }
-    requires { ⌜ ((i : ℕ) → i < records (now list) → owner (recordAt (now list) i) < 16) ⌝ }
+    requires { ⌜ size * recordsOf (now list) ≡ length (now list) ⌝ }
+    requires { ⌜ ((i : ℕ) → i < recordsOf (now list) → owner (recordAt (now list) i) < 16) ⌝ }
     ensures { λ r. ⌜ r ≡ nextCounts user (now (memory .entry)) (now (list .entry)) ⌝ }
 {
     let mut counts = [0u32; 16];
-    let mut i = list.len() / 98;
+    let mut i = list.len() / SIZE;
     while 0 < i {
         i -= 1;
-        let v = list[98 * i + 1] as usize;
-        counts[v] = layout::u32_at(list, 98 * i + 34 + 4 * v);
+        let v = records::owner(list, i) as usize;
+        counts[v] = records::own_count(list, i);
     }
-    counts[user as usize] = layout::u32_at(memory, 34 + 4 * (user as usize)) + 1;
+    counts[user as usize] = version::count(memory, user) + 1;
     counts
-}
-
-// The four big-endian bytes of x.
-fn write_count(x: u32, out: &mut [u8])
-    requires { ⌜ length (now out) ≡ 4 ⌝ }
-    ensures { λ r. ⌜ now (out .exit) ≡ bytes4 x ⌝ }
-{
-    let b = layout::u32_bytes(x);
-    bytes::copy(&b, out);
-}
-
-fn write_counts(counts: [u32; 16], out: &mut [u8])
-    requires { ⌜ length (now out) ≡ 64 ⌝ }
-    ensures { λ r. ⌜ now (out .exit) ≡ countsOf (λ v. getD counts v 0) 0 16 ⌝ }
-{
-    let mut v = 0;
-    while v < 16 {
-        write_count(counts[v], &mut out[4 * v..4 * v + 4]);
-        v += 1;
-    }
 }
 
 pub(crate) fn write(user: u8, handle: &[u8], counts: [u32; 16], out: &mut [u8])
     requires { ⌜ length (now handle) ≡ 32 ⌝ }
-    requires { ⌜ length (now out) ≡ 98 ⌝ }
-    ensures { λ r. ⌜ now (out .exit) ≡ structure user (now (handle .entry)) (λ v. getD counts v 0) ⌝ }
+    requires { ⌜ length (now out) ≡ size ⌝ }
+    ensures { λ r. ⌜ now (out .exit) ≡ structure user (now (handle .entry)) (countIn counts) ⌝ }
 {
-    out[0] = 1;
-    out[1] = user;
-    bytes::copy(handle, &mut out[2..34]);
-    write_counts(counts, &mut out[34..98]);
+    let mut h = [0u8; 32];
+    bytes::copy(handle, &mut h);
+    let record = version::write(user, h, counts);
+    bytes::copy(&record, out);
 }

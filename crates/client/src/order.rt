@@ -8,23 +8,25 @@ ghost use Rattle.search.specs.Search.{find};
 ghost use Rattle.refusal.specs.Answer.{accepted};
 ghost use Rattle.refusal.specs.Order.{tried};
 ghost use Rattle.refusal.specs.Refusal.{said};
-ghost use Rattle.protocol.specs.Version.{owner};
-ghost use Rattle.protocol.specs.List.{records, recordAt};
+ghost use Rattle.protocol.specs.Version.{size, owner};
+ghost use Rattle.protocol.specs.List.{records as recordsOf, recordAt};
 ghost use Rattle.protocol.specs.Check.{orderSteps, pairStep, current as currentOf, next as nextOf};
 ghost use Rattle.version.specs.Version.{fields};
-ghost use Rattle.client.specs.Stages.{nextCounts, none};
+ghost use Rattle.client.specs.Internal.Stages.{nextCounts, none};
+use crate::records;
 use refusal::Check;
 use refusal::Refusal;
+use version::SIZE;
 use version::Version;
 
 // The place of the user's record in the list; the number of records if there is none.
 fn entry(user: u8, list: &[u8], n: usize) -> usize
-    requires { ⌜ 98 * n ≤ length (now list) ⌝ }
+    requires { ⌜ size * n ≤ length (now list) ⌝ }
     ensures { λ r. ⌜ r ≡ find (λ i. eqb (owner (recordAt (now (list .entry)) i)) user) 0 n ⌝ }
 {
     let mut i = 0;
     while i < n {
-        if list[98 * i + 1] == user {
+        if records::owner(list, i) == user {
             return i;
         }
         i += 1;
@@ -34,22 +36,22 @@ fn entry(user: u8, list: &[u8], n: usize) -> usize
 
 // Whether the list's record of the user and the current structure are the same bytes, or neither exists.
 fn current(user: u8, memory: &[u8], list: &[u8]) -> bool
-    requires { ⌜ 98 * records (now list) ≡ length (now list) ⌝ }
+    requires { ⌜ size * recordsOf (now list) ≡ length (now list) ⌝ }
     ensures { λ r. ⌜ r ≡ currentOf user (now (memory .entry)) (now (list .entry)) ⌝ }
 {
-    let n = list.len() / 98;
+    let n = list.len() / SIZE;
     let i = entry(user, list, n);
     if n <= i {
         return memory.len() == 0;
     }
-    let record = &list[98 * i..98 * i + 98];
+    let record = &list[SIZE * i..SIZE * i + SIZE];
     layout::equal(record, memory)
 }
 
 // The list as an array of structures.
 fn read_list(list: &[u8], n: usize) -> [Version; 16]
     requires { ⌜ n ≤ 16 ⌝ }
-    requires { ⌜ 98 * n ≤ length (now list) ⌝ }
+    requires { ⌜ size * n ≤ length (now list) ⌝ }
     ensures { λ r. ⌜ ((i : ℕ) → i < n → getD r i none ≡ fields (recordAt (now (list .entry)) i)) ⌝ }
 {
     let blank = Version {
@@ -60,7 +62,7 @@ fn read_list(list: &[u8], n: usize) -> [Version; 16]
     let mut structures = [blank; 16];
     let mut i = 0;
     while i < n {
-        structures[i] = version::read(&list[98 * i..98 * i + 98]);
+        structures[i] = version::read(&list[SIZE * i..SIZE * i + SIZE]);
         i += 1;
     }
     structures
@@ -68,11 +70,11 @@ fn read_list(list: &[u8], n: usize) -> [Version; 16]
 
 // Whether all pairs are ordered: the records with each other, and each with a structure of the counts `next`.
 fn pairs(list: &[u8], next: [u32; 16]) -> Check
-    requires { ⌜ 98 * records (now list) ≡ length (now list) ⌝ }
-    requires { ⌜ records (now list) ≤ 16 ⌝ }
+    requires { ⌜ size * recordsOf (now list) ≡ length (now list) ⌝ }
+    requires { ⌜ recordsOf (now list) ≤ 16 ⌝ }
     ensures { λ r. ⌜ ((new : List ℕ) → next ≡ fields new .counts → said r ≡ tried (pairStep (now (list .entry)) new ∷ [])) ⌝ }
 {
-    let n = list.len() / 98;
+    let n = list.len() / SIZE;
     let structures = read_list(list, n);
     let mut i = 0;
     let mut j = 0;
@@ -107,14 +109,17 @@ pub(crate) struct Judged {
 
 pub(crate) fn order(user: u8, memory: &[u8], list: &[u8]) -> Judged
     requires { ⌜ user < 16 ⌝ }
-    requires { ⌜ 98 * records (now list) ≡ length (now list) ⌝ }
-    requires { ⌜ records (now list) ≤ 16 ⌝ }
-    requires { ⌜ ((i : ℕ) → i < records (now list) → owner (recordAt (now list) i) < 16) ⌝ }
-    ensures answer { λ r. ⌜ ((handle : List ℕ) → length handle ≡ 32 → said (r .answer) ≡ tried (orderSteps user (now (memory .entry)) (now (list .entry)) (nextOf user (now (memory .entry)) (now (list .entry)) handle))) ⌝ }
+    requires { ⌜ size * recordsOf (now list) ≡ length (now list) ⌝ }
+    requires { ⌜ recordsOf (now list) ≤ 16 ⌝ }
+    requires { ⌜ ((i : ℕ) → i < recordsOf (now list) → owner (recordAt (now list) i) < 16) ⌝ }
+    ensures answer { λ r. ⌜
+        ((handle : List ℕ) → length handle ≡ 32 → said (r .answer) ≡
+        tried (orderSteps user (now (memory .entry)) (now (list .entry)) (nextOf user (now (memory .entry)) (now (list .entry)) handle)))
+        ⌝ }
     ensures counts { λ r. ⌜ (said (r .answer) ≡ accepted tt → r .counts ≡ nextCounts user (now (memory .entry)) (now (list .entry))) ⌝ }
 {
     let listed = current(user, memory, list);
-    let own = layout::u32_at(memory, 34 + 4 * (user as usize));
+    let own = version::count(memory, user);
     if !listed {
         return Judged {
             answer: Check::Refused(Refusal::NotCurrent),

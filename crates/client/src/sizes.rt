@@ -4,18 +4,20 @@ ghost use mathlib.Core.Bool.{true};
 ghost use mathlib.Core.Logic.{_⊎_};
 ghost use Rattle.refusal.specs.Order.{tried};
 ghost use Rattle.refusal.specs.Refusal.{said};
+ghost use Rattle.protocol.specs.Version.{size};
 ghost use Rattle.protocol.specs.Check.{sizeSteps};
 use refusal::Check;
 use refusal::Refusal;
+use version::SIZE;
 
 // Whether this is the length of no structure or of one.
 fn none_or_one(len: usize) -> bool
-    ensures { λ r. ⌜ (r ≡ true → (len ≡ 0) ⊎ (len ≡ 98)) × ((len ≡ 0) ⊎ (len ≡ 98) → r ≡ true) ⌝ }
+    ensures { λ r. ⌜ (r ≡ true → (len ≡ 0) ⊎ (len ≡ size)) × ((len ≡ 0) ⊎ (len ≡ size) → r ≡ true) ⌝ }
 {
     if len == 0 {
         return true;
     }
-    len == 98
+    len == SIZE
 }
 
 pub(crate) fn sizes(
@@ -27,7 +29,9 @@ pub(crate) fn sizes(
     handle: &[u8],
     room: usize,
 ) -> Check
-    ensures { λ r. ⌜ said r ≡ tried (sizeSteps users user (now (memory .entry)) (now (list .entry)) (now (marks .entry)) (now (handle .entry)) room) ⌝ }
+    ensures { λ r. ⌜
+        said r ≡ tried (sizeSteps users user (now (memory .entry)) (now (list .entry)) (now (marks .entry)) (now (handle .entry)) room)
+        ⌝ }
 {
     if users < 1 {
         return Check::Refused(Refusal::Users);
@@ -41,8 +45,8 @@ pub(crate) fn sizes(
     if !none_or_one(memory.len()) {
         return Check::Refused(Refusal::Length(0));
     }
-    let records = list.len() / 98;
-    if 98 * records != list.len() {
+    let records = list.len() / SIZE;
+    if SIZE * records != list.len() {
         return Check::Refused(Refusal::Length(0));
     }
     if (users as usize) < records {
@@ -54,7 +58,7 @@ pub(crate) fn sizes(
     if handle.len() != 32 {
         return Check::Refused(Refusal::Length(0));
     }
-    if room != 98 {
+    if room != SIZE {
         return Check::Refused(Refusal::Length(0));
     }
     Check::Passed

@@ -12,7 +12,7 @@ pub mod Paths
 pub mod WrittenAnswers
 pub mod EntryMeans
 pub mod BufferAnswersAsTable
-pub mod InodeMeaning
+pub mod BlockCheckMeans
 pub mod BlockMeaning
 pub mod LookupMeans
 pub mod NoneOnlyAtRoot

@@ -5,7 +5,7 @@ use mathlib.Core.Bool.{Bool, cond, _&&_, _||_}
 use mathlib.Core.List.{List}
 use lib.Dec.{leb, ltb, eqb}
 use lib.ListN.{getD}
-use Rattle.layout.specs.Bytes.{eight, values}
+use Rattle.layout.specs.Bytes.{eight, bytesAt}
 use Rattle.search.specs.Search.{every}
 use Rattle.layout.specs.Strings.{zeros}
 use Rattle.itable.specs.declared.Link.{Link}
@@ -25,7 +25,7 @@ abbrev pub number : List ℕ → ℕ → ℕ
 number b j = eight b (2 + 40 * j)
 
 abbrev pub value : List ℕ → ℕ → List ℕ
-value b j = values (λ k. getD b (10 + 40 * j + k) 0) 0 32
+value b j = bytesAt b (10 + 40 * j) 32
 
 -- What leads to a block: the kind due there, 0 for the root, the number in the slot, and the hash. To the root leads the handle, to a child slot
 -- j of its parent.

@@ -21,7 +21,7 @@ use Rattle.itable.specs.Inode.{Span, fileLength, blockCheck}
 use Rattle.itable.specs.InodeMeaning as files
 use Rattle.itable.proofs.AtMostBlocks.{at-most-blocks}
 use Rattle.itable.proofs.LookupMeans.{lookup-means}
-use Rattle.itable.proofs.InodeMeaning.{block-check-means}
+use Rattle.itable.proofs.BlockCheckMeans.{block-check-means}
 use Rattle.sundr.specs.Lookup.{lookedUp, isFound}
 use Rattle.sundr.specs.Read.{IsRead}
 use Rattle.sundr.proofs.Fits.{Fits, small, small-fits, each-fits, result-read, refusal-read, answer-read, in-order-read}

@@ -1,16 +1,16 @@
 -- The fields of a record are read from its first 98 bytes, and the orders of two structures' fields are those of their records.
 use Prim.Native.Nat.{ℕ, _+_, _*_, _-_, _<_}
 use mathlib.Core.Bool.{not, _&&_}
-use mathlib.Core.List.{List, _++_, append-nil}
+use mathlib.Core.List.{List, _++_}
 use mathlib.Core.Path.{_≡_, sym, ap, ap₂, _∙_}
 use native.Mathlib.Decide.{decLt}
 use native.Mathlib.Omega.{arith}
 use lib.Dec.{leb, eqb}
-use lib.ListN.{length, getD, take, drop, replicate, getD-replicate, length-drop, List·getD-append, List·getD-eq-default}
-use lib.Seq.{getD-take, getD-drop, getD-append-add, take-length, length-take-le}
+use lib.ListN.{length, getD, take, drop, replicate, getD-replicate, List·getD-append, List·getD-eq-default}
+use lib.Seq.{getD-take, getD-drop, getD-append-add, take-length}
 use Rattle.layout.specs.Bytes.{four, part, values}
 use Rattle.layout.proofs.Bytes.{four-part}
-use Rattle.layout.proofs.Values.{getD-values, values-cong, values-part}
+use Rattle.layout.proofs.Values.{getD-values, values-cong}
 use Rattle.protocol.specs.Version.{size, count, countsBefore, countsStrictlyBefore, atOrBefore, strictlyBefore}
 use Rattle.search.specs.Search.{every}
 use Rattle.search.proofs.Search.{every-cong}
@@ -54,7 +54,13 @@ padded-alike x i h =
       | no g ↦
           let j : ℕ = i - length x in
           let e : i ≡ length x + j = omega arith in
-          rw (take-length, List·getD-eq-default x 0 {n = i} (omega arith), e, getD-append-add x (drop (length x) (replicate size 0)) j 0, getD-drop {A = ℕ} (length x) (replicate size 0) j 0)
+          rw (
+            take-length,
+            List·getD-eq-default x 0 {n = i} (omega arith),
+            e,
+            getD-append-add x (drop (length x) (replicate size 0)) j 0,
+            getD-drop {A = ℕ} (length x) (replicate size 0) j 0,
+          )
           (getD-replicate {A = ℕ} size (length x + j) 0 0 (omega arith))
     ]
 
@@ -63,14 +69,6 @@ pub count-at : (list : List ℕ) (i v : ℕ) → v < 16 → four list (98 * i + 
 count-at list i v h =
     let e : 98 * i + 34 + 4 * v ≡ 98 * i + (34 + 4 * v) = omega arith in
     rw e (sym (four-part list (98 * i) 98 (34 + 4 * v) (omega arith)))
-
--- The handle, copied into an array of its length.
-pub handle-copied :
-    (x s : List ℕ) → length x ≡ size → s ≡ take 32 (drop 2 x) →
-    take (length s) s ++ drop (length s) (replicate 32 0) ≡ values (λ i. getD x (2 + i) 0) 0 32
-handle-copied x s h e =
-    let l : length s ≡ 32 = rw e (length-take-le 32 (drop 2 x) (simp length-drop (omega arith))) in
-    rw (take-length, l) (append-nil s ∙ (e ∙ sym (values-part x 2 32 (omega arith))))
 
 pub count-fields : (x : List ℕ) (v : ℕ) → v < 16 → countIn (fields x .counts) v ≡ count x v
 unfolding fields

@@ -1,3 +1,5 @@
+pub mod Copied
 pub mod Form
 pub mod Laws
 pub mod Orders
+pub mod Written

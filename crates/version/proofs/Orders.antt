@@ -10,7 +10,7 @@ use lib.Dec.{leb, eqb}
 use Rattle.search.specs.Search.{every}
 use Rattle.search.proofs.Search.{every-more, every-both, every-cong}
 use Rattle.protocol.specs.Version.{countsBefore, countsStrictlyBefore}
-use Rattle.version.specs.Version.{standing}
+use Rattle.version.specs.Internal.Standing.{standing}
 
 -- What is below among all, or at one more; and what is above.
 joined : (a b p q : Bool) → bitOr (bitOr (cond a 0 1 + cond b 0 2) (cond p 0 1)) (cond q 0 2) ≡ cond (a && p) 0 1 + cond (b && q) 0 2
@@ -59,7 +59,10 @@ module _ (f g : ℕ → ℕ) where
   pub strictly-one : eqb (standing f g 16) 1 ≡ countsStrictlyBefore f g
   unfolding standing countsStrictlyBefore countsBefore
   strictly-one =
-      rw (every-cong (λ v. eqb (f v) (g v)) (λ v. leb (g v) (f v) && leb (f v) (g v)) 0 16 (λ v a b. equal-both (f v) (g v)), every-both (λ v. leb (g v) (f v)) (λ v. leb (f v) (g v)) 0 16)
+      rw (
+        every-cong (λ v. eqb (f v) (g v)) (λ v. leb (g v) (f v) && leb (f v) (g v)) 0 16 (λ v a b. equal-both (f v) (g v)),
+        every-both (λ v. leb (g v) (f v)) (λ v. leb (f v) (g v)) 0 16,
+      )
       (by-one (countsBefore g f) (countsBefore f g))
 
   by-three : (a b : Bool) → not (eqb (cond a 0 1 + cond b 0 2) 3) ≡ (b || a)

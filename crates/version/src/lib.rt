@@ -1,14 +1,28 @@
-// Version structures: a record's bytes read into a struct, judged well formed, and two structures
-// compared by their counts. It judges one record by itself, and knows nothing of lists or signatures.
+// Version structures: the one place that knows their layout. A record's bytes are read, judged well
+// formed and written, and two structures are compared by their counts. Each call is about one record
+// by itself, of any length and bytes, and knows nothing of lists or signatures.
 ghost use mathlib.Core.Path.{_≡_};
 ghost use mathlib.Core.Bool.{cond, _||_};
 ghost use Prim.Native.Nat.{ℕ, _+_, _-_, _<_};
 ghost use lib.Dec.{leb, eqb};
 ghost use lib.ListN.{length, getD};
-ghost use Rattle.layout.specs.Bytes.{values};
-ghost use Rattle.protocol.specs.Version.{size, count, wellFormed, countsBefore, countsStrictlyBefore};
+ghost use Rattle.layout.specs.Bytes.{values, bytes4};
+ghost use Rattle.protocol.specs.Version.{size, owner as ownerOf, count as countOf, own, counts as countsOf, structure};
+ghost use Rattle.protocol.specs.Version.{wellFormed, countsBefore, countsStrictlyBefore};
 ghost use Rattle.search.specs.Search.{every};
-ghost use Rattle.version.specs.Version.{fields, countIn, standing as standingOf};
+ghost use Rattle.version.specs.Version.{fields, countIn};
+ghost use Rattle.version.specs.Internal.Standing.{standing as standingOf};
+
+// A record's length, and where its kind, owner, i-handle and counts stand.
+pub const SIZE: usize = 98;
+
+const KIND: usize = 0;
+
+const OWNER: usize = 1;
+
+const HANDLE: usize = 2;
+
+const COUNTS: usize = 34;
 
 // A version structure: owner, i-handle, and how many operations of each user it counts.
 pub struct Version {
@@ -17,12 +31,41 @@ pub struct Version {
     pub counts: [u32; 16],
 }
 
+// The owner of a record; 0 where it is too short to have one.
+pub fn owner(x: &[u8]) -> u8
+    ensures { λ r. ⌜ r ≡ ownerOf (now (x .entry)) ⌝ }
+{
+    layout::byte_at(x, OWNER)
+}
+
+fn count_at(x: &[u8], v: usize) -> u32
+    requires { ⌜ v < 256 ⌝ }
+    ensures { λ r. ⌜ r ≡ countOf (now (x .entry)) v ⌝ }
+{
+    layout::u32_at(x, COUNTS + 4 * v)
+}
+
+// The version of user v in a record (the count of v): the number that stands there, with zeros for
+// the bytes that the record lacks.
+pub fn count(x: &[u8], v: u8) -> u32
+    ensures { λ r. ⌜ r ≡ countOf (now (x .entry)) v ⌝ }
+{
+    count_at(x, v as usize)
+}
+
+// The owner's version number (the own count).
+pub fn own_count(x: &[u8]) -> u32
+    ensures { λ r. ⌜ r ≡ own (now (x .entry)) ⌝ }
+{
+    count(x, owner(x))
+}
+
 // A record that is cut short, with zeros for the bytes that it lacks.
-fn padded(x: &[u8]) -> [u8; 98]
+fn padded(x: &[u8]) -> [u8; SIZE]
     requires { ⌜ length (now x) < size ⌝ }
     ensures { λ r. ⌜ ((i : ℕ) → i < size → getD r i 0 ≡ getD (now (x .entry)) i 0) ⌝ }
 {
-    let mut record = [0u8; 98];
+    let mut record = [0u8; SIZE];
     bytes::copy(x, &mut record);
     record
 }
@@ -32,17 +75,17 @@ fn read_handle(x: &[u8]) -> [u8; 32]
     ensures { λ r. ⌜ r ≡ values (λ i. getD (now (x .entry)) (2 + i) 0) 0 32 ⌝ }
 {
     let mut handle = [0u8; 32];
-    bytes::copy(&x[2..34], &mut handle);
+    bytes::copy(&x[HANDLE..COUNTS], &mut handle);
     handle
 }
 
 fn read_counts(x: &[u8]) -> [u32; 16]
-    ensures { λ r. ⌜ r ≡ values (count (now (x .entry))) 0 16 ⌝ }
+    ensures { λ r. ⌜ r ≡ values (countOf (now (x .entry))) 0 16 ⌝ }
 {
     let mut counts = [0u32; 16];
     let mut v = 0;
     while v < 16 {
-        counts[v] = layout::u32_at(x, 34 + 4 * v);
+        counts[v] = count_at(x, v);
         v += 1;
     }
     counts
@@ -53,7 +96,7 @@ fn read_whole(x: &[u8]) -> Version
     requires { ⌜ length (now x) ≡ size ⌝ }
     ensures { λ r. ⌜ r ≡ fields (now (x .entry)) ⌝ }
 {
-    let owner = layout::byte_at(x, 1);
+    let owner = owner(x);
     let handle = read_handle(x);
     let counts = read_counts(x);
     Version {
@@ -68,30 +111,30 @@ fn read_whole(x: &[u8]) -> Version
 pub fn read(x: &[u8]) -> Version
     ensures { λ r. ⌜ r ≡ fields (now (x .entry)) ⌝ }
 {
-    if x.len() < 98 {
+    if x.len() < SIZE {
         let record = padded(x);
         return read_whole(&record);
     }
-    read_whole(&x[0..98])
+    read_whole(&x[0..SIZE])
 }
 
 // The counts of a record alone.
 pub fn counts(x: &[u8]) -> [u32; 16]
     ensures { λ r. ⌜ r ≡ fields (now (x .entry)) .counts ⌝ }
 {
-    if x.len() < 98 {
+    if x.len() < SIZE {
         return read_counts(x);
     }
-    read_counts(&x[0..98])
+    read_counts(&x[0..SIZE])
 }
 
 // Whether the counts of the users from `from` to 15 are all 0.
 fn zero_from(x: &[u8], from: usize) -> bool
-    ensures { λ r. ⌜ r ≡ every (λ v. eqb (count (now (x .entry)) v) 0) from (16 - from) ⌝ }
+    ensures { λ r. ⌜ r ≡ every (λ v. eqb (countOf (now (x .entry)) v) 0) from (16 - from) ⌝ }
 {
     let mut v = from;
     while v < 16 {
-        if layout::u32_at(x, 34 + 4 * v) != 0 {
+        if count_at(x, v) != 0 {
             return false;
         }
         v += 1;
@@ -103,20 +146,52 @@ fn zero_from(x: &[u8], from: usize) -> bool
 pub fn well_formed(users: u8, x: &[u8]) -> bool
     ensures { λ r. ⌜ r ≡ wellFormed users (now (x .entry)) ⌝ }
 {
-    let owner = layout::byte_at(x, 1) as usize;
-    if layout::byte_at(x, 0) != 1 {
+    let owner = owner(x) as usize;
+    if layout::byte_at(x, KIND) != 1 {
         return false;
     }
     if users as usize <= owner {
         return false;
     }
-    if layout::u32_at(x, 34 + 4 * owner) == 0 {
+    if count_at(x, owner) == 0 {
         return false;
     }
-    if x.len() < 98 {
+    if x.len() < SIZE {
         return zero_from(x, users as usize);
     }
-    zero_from(&x[0..98], users as usize)
+    zero_from(&x[0..SIZE], users as usize)
+}
+
+// The four big-endian bytes of x.
+fn write_count(x: u32, out: &mut [u8])
+    requires { ⌜ length (now out) ≡ 4 ⌝ }
+    ensures { λ r. ⌜ now (out .exit) ≡ bytes4 x ⌝ }
+{
+    let b = layout::u32_bytes(x);
+    bytes::copy(&b, out);
+}
+
+fn write_counts(counts: [u32; 16], out: &mut [u8])
+    requires { ⌜ length (now out) ≡ 64 ⌝ }
+    ensures { λ r. ⌜ now (out .exit) ≡ countsOf (countIn counts) 0 16 ⌝ }
+{
+    let mut v = 0;
+    while v < 16 {
+        write_count(counts[v], &mut out[4 * v..4 * v + 4]);
+        v += 1;
+    }
+}
+
+// The record of user `user` with this i-handle and these counts.
+pub fn write(user: u8, handle: [u8; 32], counts: [u32; 16]) -> [u8; SIZE]
+    ensures { λ r. ⌜ r ≡ structure user handle (countIn counts) ⌝ }
+{
+    let mut record = [0u8; SIZE];
+    record[KIND] = 1;
+    record[OWNER] = user;
+    bytes::copy(&handle, &mut record[HANDLE..COUNTS]);
+    write_counts(counts, &mut record[COUNTS..SIZE]);
+    record
 }
 
 // 1 if a is below b, 0 if not.

@@ -14,10 +14,12 @@ enum-told-2 : tie.Need-enum-told-2
 enum-told-2 c = search needs
 
 returns : tie.Need-returns
-returns c = sizes-refuse _ _ _ _ _ _ _ (c .before .before .sizes .result) (c .before .before .sizes .ensures) (c .before .match .keys2)
+returns c =
+    let s = c .before .before .sizes in sizes-refuse _ _ _ _ _ _ _ (s .result) (s .ensures) (c .before .match .keys2)
 
 forms-requires : tie.Need-forms-requires
-forms-requires c κs = let z = sized _ _ _ _ _ _ (c .before .before .before .before .before .before .before .before .args .out .now) (c .before .before .sizes .result) (c .before .before .sizes .ensures) (c .before .match .keys1) .1 in (z .none-or-one, z .one-mark-each)
+forms-requires c κs =
+    let s = c .before .before .sizes in sized _ _ _ _ _ _ _ (s .result) (s .ensures) (c .before .match .keys1) .1 .one-mark-each
 
 enum-told-3 : tie.Need-enum-told-3
 enum-told-3 c = search needs
@@ -27,20 +29,22 @@ enum-told-4 c = search needs
 
 returns-2 : tie.Need-returns-2
 returns-2 c =
-    forms-refuse _ _ _ _ _ _ _ (c .before .before .before .before .before .sizes .result) (c .before .before .before .before .before .sizes .ensures) (c .before .before .before .before .match .keys1)
-    (c .before .before .forms .result) (c .before .before .forms .ensures) (c .before .match2 .keys2)
+    let f = c .before .before in
+    let sm = f .before .before in
+    let s = sm .before .sizes in
+    forms-refuse _ _ _ _ _ _ _ (s .result) (s .ensures) (sm .match .keys1) (f .forms .result) (f .forms .ensures) (c .before .match2 .keys2)
 
 order-requires : tie.Need-order-requires
 order-requires c κs =
-    let o = c .before .before .before .before .before .before .before .before .before .before .before .args .out .now in
-    let r = c .before .before .before .before .before .sizes .result in
-    let e = c .before .before .before .before .before .sizes .ensures in
-    let k = c .before .before .before .before .match .keys1 in
-    let z = small _ _ _ _ _ _ o r e k in (
+    let f = c .before .before in
+    let sm = f .before .before in
+    let s = sm .before .sizes in
+    let k = sm .match .keys1 in
+    let z = small _ _ _ _ _ _ _ (s .result) (s .ensures) k in (
       z .0,
       (
-        sized _ _ _ _ _ _ o r e k .1 .whole,
-        (z .1, owned _ _ _ _ _ _ o r e k (c .before .before .forms .result) (c .before .before .forms .ensures) (c .before .match2 .keys1)),
+        sized _ _ _ _ _ _ _ (s .result) (s .ensures) k .1 .whole,
+        (z .1, owned _ _ _ _ _ _ _ (s .result) (s .ensures) k (f .forms .result) (f .forms .ensures) (c .before .match2 .keys1)),
       ),
     )
 
@@ -52,22 +56,36 @@ enum-told-6 c = search needs
 
 returns-3 : tie.Need-returns-3
 returns-3 c =
-    order-refuse _ _ _ _ _ _ _ (c .before .before .before .before .before .before .before .before .sizes .result) (c .before .before .before .before .before .before .before .before .sizes .ensures) (c .before .before .before .before .before .before .before .match .keys1)
-    (c .before .before .before .before .before .forms .result) (c .before .before .before .before .before .forms .ensures) (c .before .before .before .before .match2 .keys1)
-    (c .before .before .order .result .answer) (c .before .before .order .ensures .0) (c .before .match3 .keys2)
+    let o = c .before .before in
+    let fm = o .before .before in
+    let f = fm .before in
+    let sm = f .before .before in
+    let s = sm .before .sizes in
+    order-refuse _ _ _ _ _ _ _ (s .result) (s .ensures) (sm .match .keys1) (f .forms .result) (f .forms .ensures) (fm .match2 .keys1)
+    (o .order .result .answer) (o .order .ensures .0) (c .before .match3 .keys2)
 
 write-requires : tie.Need-write-requires
 write-requires c κs =
-    let z = sized _ _ _ _ _ _ (c .before .before .before .before .before .before .before .before .before .before .before .before .before .before .before .before .args .out .now) (c .before .before .before .before .before .before .before .before .before .before .sizes .result) (c .before .before .before .before .before .before .before .before .before .before .sizes .ensures) (c .before .before .before .before .before .before .before .before .before .match .keys1) .1 in (z .handle-long, z .answer-long)
+    let o = c .before .before .before .before in
+    let sm = o .before .before .before .before .before in
+    let s = sm .before .sizes in
+    let z = sized _ _ _ _ _ _ _ (s .result) (s .ensures) (sm .match .keys1) .1 in
+    (z .handle-long, z .answer-long)
 
 same-length : tie.Need-same-length
 same-length c = search needs
 
 returns-4 : tie.Need-returns-4
 returns-4 c =
-    writes _ _ _ _ _ _ _ (c .before .before .before .before .before .before .before .before .before .before .before .before .before .sizes .result) (c .before .before .before .before .before .before .before .before .before .before .before .before .before .sizes .ensures) (c .before .before .before .before .before .before .before .before .before .before .before .before .match .keys1)
-    (c .before .before .before .before .before .before .before .before .before .before .forms .result) (c .before .before .before .before .before .before .before .before .before .before .forms .ensures) (c .before .before .before .before .before .before .before .before .before .match2 .keys1)
-    (c .before .before .before .before .before .before .before .order .result .answer) (c .before .before .before .before .before .before .before .order .ensures .0) (c .before .before .before .before .before .before .match3 .keys1) _ _ (c .before .before .before .before .before .before .before .order .ensures .1) (c .before .before .write .ensures)
+    let w = c .before .before in
+    let om = w .before .before .before .before in
+    let o = om .before in
+    let fm = o .before .before in
+    let f = fm .before in
+    let sm = f .before .before in
+    let s = sm .before .sizes in
+    writes _ _ _ _ _ _ _ (s .result) (s .ensures) (sm .match .keys1) (f .forms .result) (f .forms .ensures) (fm .match2 .keys1)
+    (o .order .result .answer) (o .order .ensures .0) (om .match3 .keys1) _ _ (o .order .ensures .1) (w .write .ensures)
 
 pub check-spec : {M : Type 1} → statement M
 check-spec =

@@ -21,14 +21,8 @@ loop-holds : tie.Need-loop-holds Inv-loop μ-loop
 unfolding values
 loop-holds c = (omega arith, refl, refl)
 
-mul-u32-at : tie.Need-mul-u32-at Inv-loop μ-loop
-mul-u32-at c = omega arith
-
-add-u32-at : tie.Need-add-u32-at Inv-loop μ-loop
-add-u32-at c = omega arith
-
-u32-at-requires : tie.Need-u32-at-requires Inv-loop μ-loop
-u32-at-requires c κs = omega arith
+count-at-requires : tie.Need-count-at-requires Inv-loop μ-loop
+count-at-requires c κs = omega arith
 
 mul-counts : tie.Need-mul-counts Inv-loop μ-loop
 mul-counts c = omega arith
@@ -43,16 +37,18 @@ loop-less : tie.Need-loop-less Inv-loop μ-loop
 loop-less c = omega arith
 
 loop-again : tie.Need-loop-again Inv-loop μ-loop
-loop-again c = (
-  omega arith,
-  simp length-set (c .before .before .loop .inv .1),
-  filled (count (c .before .before .before .before .args .x .now)) _ _ _ (omega arith) (c .before .before .loop .inv .2) (c .u32-at .ensures),
-)
+loop-again c =
+    let l = c .before .before in (
+      omega arith,
+      simp length-set (l .loop .inv .1),
+      filled (count (l .before .before .args .x .now)) _ _ _ (omega arith) (l .loop .inv .2) (c .count-at .ensures),
+    )
 
 returns : tie.Need-returns Inv-loop μ-loop
 returns c =
-    let e : c .before .loop .v ≡ 16 = omega arith in
-    sym (take-all 16 (c .before .loop .counts) (omega arith)) ∙ (rw e at (c .before .loop .inv .2))
+    let l = c .before .loop in
+    let e : l .v ≡ 16 = omega arith in
+    sym (take-all 16 (l .counts) (omega arith)) ∙ (rw e at (l .inv .2))
 
 pub read-counts-spec : {M : Type 1} → statement M
 read-counts-spec =
@@ -61,9 +57,7 @@ read-counts-spec =
     Inv-loop
     μ-loop
     loop-holds
-    mul-u32-at
-    add-u32-at
-    u32-at-requires
+    count-at-requires
     mul-counts
     array-write-counts
     add-v

@@ -1,6 +1,7 @@
 -- The thirty-two bytes, copied at one go.
 use mathlib.Core.Path.{refl, _∙_}
-use Rattle.version.proofs.Laws.{handle-copied}
+use native.Mathlib.Omega.{arith}
+use Rattle.layout.proofs.Values.{part-copied}
 use borrow.Author.Needs.{needs}
 use Rattle.version.proofs.read_handle.Statement.{statement}
 use Rattle.version.proofs.read_handle.Tie as tie
@@ -21,7 +22,9 @@ copy-requires : tie.Need-copy-requires
 copy-requires c κs = search needs
 
 returns : tie.Need-returns
-returns c = c .before .copy .ensures .1 ∙ handle-copied (c .before .before .before .before .before .args .x .now) _ (search needs) refl
+returns c =
+    let p = c .before in
+    p .copy .ensures .1 ∙ part-copied (p .before .before .before .before .args .x .now) _ 2 32 (omega arith) refl
 
 pub read-handle-spec : {M : Type 1} → statement M
 read-handle-spec =

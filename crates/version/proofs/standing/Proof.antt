@@ -4,7 +4,8 @@ use Prim.Native.Nat.{_≤_, _-_}
 use mathlib.Core.Path.{_≡_, refl}
 use native.Mathlib.Omega.{arith}
 use Rattle.search.specs.Search.{find, every}
-use Rattle.version.specs.Version.{countIn, standing}
+use Rattle.version.specs.Version.{countIn}
+use Rattle.version.specs.Internal.Standing.{standing}
 use Rattle.version.proofs.Orders.{stands-more}
 use Rattle.version.proofs.standing.Statement.{statement}
 use Rattle.version.proofs.standing.Tie as tie
@@ -57,10 +58,10 @@ loop-less c = omega arith
 
 loop-again : tie.Need-loop-again Inv-loop μ-loop
 loop-again c =
-    let a = c .before .before .before .before .args in (
+    let l = c .before .before .before in
+    let a = l .before .args in (
       omega arith,
-      rw (c .before .before .before .loop .inv .1, c .before .below .ensures, c .above .ensures)
-          (stands-more (countIn (a .t1)) (countIn (a .t2)) (c .before .before .before .loop .v)),
+      rw (l .loop .inv .1, c .before .below .ensures, c .above .ensures) (stands-more (countIn (a .t1)) (countIn (a .t2)) (l .loop .v)),
     )
 
 returns : tie.Need-returns Inv-loop μ-loop

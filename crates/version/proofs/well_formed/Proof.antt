@@ -6,44 +6,49 @@ use borrow.Author.Needs.{needs}
 use Rattle.version.proofs.well_formed.Statement.{statement}
 use Rattle.version.proofs.well_formed.Tie as tie
 
-byte-at-requires : tie.Need-byte-at-requires
-byte-at-requires c κs = search needs
+owner-requires : tie.Need-owner-requires
+owner-requires c κs = search needs
 
 cast-owner : tie.Need-cast-owner
 cast-owner c = search needs
 
-byte-at-requires-2 : tie.Need-byte-at-requires-2
-byte-at-requires-2 c κs = search needs
+byte-at-requires : tie.Need-byte-at-requires
+byte-at-requires c κs = search needs
 
 returns : tie.Need-returns
-returns c = other-kind _ _ _ _ (c .before .byte-at2 .ensures) (c .before .before .byte-at .ensures) (c .if1 .taken)
+returns c =
+    let k = c .before in
+    other-kind _ _ _ _ (k .byte-at .ensures) (k .before .owner .ensures) (c .if1 .taken)
 
 returns-2 : tie.Need-returns-2
 returns-2 c =
-    no-user _ _ _ _ (c .before .before .byte-at2 .ensures) (c .before .before .before .byte-at .ensures) (c .before .if1 .left) (c .if2 .taken)
+    let one = c .before in
+    let k = one .before in
+    no-user _ _ _ _ (k .byte-at .ensures) (k .before .owner .ensures) (one .if1 .left) (c .if2 .taken)
 
-mul-u32-at : tie.Need-mul-u32-at
-mul-u32-at c = search needs
-
-add-u32-at : tie.Need-add-u32-at
-add-u32-at c = search needs
-
-u32-at-requires : tie.Need-u32-at-requires
-u32-at-requires c κs = search needs
+count-at-requires : tie.Need-count-at-requires
+count-at-requires c κs = search needs
 
 returns-3 : tie.Need-returns-3
 returns-3 c =
-    no-version _ _ _ _ (c .before .before .before .before .byte-at2 .ensures) (c .before .before .before .before .before .byte-at .ensures)
-    (c .before .before .before .if1 .left) (c .before .before .if2 .left) _ (c .before .u32-at .ensures) (c .if3 .taken)
+    let n = c .before in
+    let user = n .before in
+    let one = user .before in
+    let k = one .before in
+    no-version _ _ _ _ (k .byte-at .ensures) (k .before .owner .ensures) (one .if1 .left) (user .if2 .left) _ (n .count-at .ensures) (c .if3 .taken)
 
 zero-from-requires : tie.Need-zero-from-requires
 zero-from-requires c κs = search needs
 
 returns-4 : tie.Need-returns-4
 returns-4 c =
-    others _ _ _ _ (c .before .before .before .before .before .before .byte-at2 .ensures) (c .before .before .before .before .before .before .before .byte-at .ensures)
-    (c .before .before .before .before .before .if1 .left) (c .before .before .before .before .if2 .left) _ (c .before .before .before .u32-at .ensures)
-    (c .before .before .if3 .left) _ (c .zero-from .ensures)
+    let some = c .before .before in
+    let n = some .before in
+    let user = n .before in
+    let one = user .before in
+    let k = one .before in
+    others _ _ _ _ (k .byte-at .ensures) (k .before .owner .ensures) (one .if1 .left) (user .if2 .left) _ (n .count-at .ensures)
+    (some .if3 .left) _ (c .zero-from .ensures)
 
 sub-zero-from : tie.Need-sub-zero-from
 sub-zero-from c = search needs
@@ -59,22 +64,25 @@ zero-from-requires-2 c κs = search needs
 
 returns-5 : tie.Need-returns-5
 returns-5 c =
-    others _ _ _ _ (c .before .before .before .before .before .before .before .byte-at2 .ensures) (c .before .before .before .before .before .before .before .before .byte-at .ensures)
-    (c .before .before .before .before .before .before .if1 .left) (c .before .before .before .before .before .if2 .left) _ (c .before .before .before .before .u32-at .ensures)
-    (c .before .before .before .if3 .left) _ (c .zero-from2 .ensures ∙ zero-alike _ _ (first-alike (c .before .before .before .before .before .before .before .before .before .before .args .x .now)) _)
+    let some = c .before .before .before in
+    let n = some .before in
+    let user = n .before in
+    let one = user .before in
+    let k = one .before in
+    let x = k .before .before .before .args .x .now in
+    others _ _ _ _ (k .byte-at .ensures) (k .before .owner .ensures) (one .if1 .left) (user .if2 .left) _ (n .count-at .ensures)
+    (some .if3 .left) _ (c .zero-from2 .ensures ∙ zero-alike _ _ (first-alike x) _)
 
 pub well-formed-spec : {M : Type 1} → statement M
 well-formed-spec =
     tie.close
     (tie.spec
-    byte-at-requires
+    owner-requires
     cast-owner
-    byte-at-requires-2
+    byte-at-requires
     returns
     returns-2
-    mul-u32-at
-    add-u32-at
-    u32-at-requires
+    count-at-requires
     returns-3
     zero-from-requires
     returns-4

@@ -20,20 +20,13 @@ abbrev μ-loop : tie.MeasureT-loop
 loop-holds : tie.Need-loop-holds Inv-loop μ-loop
 loop-holds c = (omega arith, λ m h l. absurd (omega arith))
 
-mul-u32-at : tie.Need-mul-u32-at Inv-loop μ-loop
-mul-u32-at c = omega arith
-
-add-u32-at : tie.Need-add-u32-at Inv-loop μ-loop
-add-u32-at c = omega arith
-
-u32-at-requires : tie.Need-u32-at-requires Inv-loop μ-loop
-u32-at-requires c κs = omega arith
+count-at-requires : tie.Need-count-at-requires Inv-loop μ-loop
+count-at-requires c κs = omega arith
 
 returns : tie.Need-returns Inv-loop μ-loop
 returns c =
-    sym
-    (every-fails _ _ _ (c .before .before .before .loop .v) (c .before .before .before .loop .inv .0) (omega arith)
-    (ne-eqb _ 0 (λ e. c .if1 .taken (c .before .u32-at .ensures ∙ e))))
+    let l = c .before .before .before .loop in
+    sym (every-fails _ _ _ (l .v) (l .inv .0) (omega arith) (ne-eqb _ 0 (λ e. c .if1 .taken (c .before .count-at .ensures ∙ e))))
 
 add-v : tie.Need-add-v Inv-loop μ-loop
 add-v c = omega arith
@@ -45,7 +38,7 @@ loop-again : tie.Need-loop-again Inv-loop μ-loop
 loop-again c = (
   omega arith,
   span-more _ _ (c .before .before .before .loop .inv .1)
-      (eq-eqb _ _ (sym (c .before .u32-at .ensures) ∙ c .if1 .left)),
+      (eq-eqb _ _ (sym (c .before .count-at .ensures) ∙ c .if1 .left)),
 )
 
 returns-2 : tie.Need-returns-2 Inv-loop μ-loop
@@ -58,9 +51,7 @@ zero-from-spec =
     Inv-loop
     μ-loop
     loop-holds
-    mul-u32-at
-    add-u32-at
-    u32-at-requires
+    count-at-requires
     returns
     add-v
     loop-less

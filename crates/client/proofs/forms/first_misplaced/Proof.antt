@@ -22,7 +22,9 @@ well-placed-requires : tie.Need-well-placed-requires Inv-loop μ-loop
 well-placed-requires c κs = omega arith
 
 returns : tie.Need-returns Inv-loop μ-loop
-returns c = sym (find-first _ _ _ (omega arith) (c .before .before .before .loop .inv .1) (ap not (sym (c .before .well-placed .ensures)) ∙ c .if1 .taken))
+returns c =
+    let l = c .before .before .before .loop in
+    sym (find-first _ _ _ (omega arith) (l .inv .1) (ap not (sym (c .before .well-placed .ensures)) ∙ c .if1 .taken))
 
 add-i : tie.Need-add-i Inv-loop μ-loop
 add-i c = omega arith
@@ -31,7 +33,9 @@ loop-less : tie.Need-loop-less Inv-loop μ-loop
 loop-less c = omega arith
 
 loop-again : tie.Need-loop-again Inv-loop μ-loop
-loop-again c = (omega arith, span-more _ _ (c .before .before .before .loop .inv .1) (ap not (sym (c .before .well-placed .ensures)) ∙ c .if1 .left))
+loop-again c =
+    let l = c .before .before .before .loop in
+    (omega arith, span-more _ _ (l .inv .1) (ap not (sym (c .before .well-placed .ensures)) ∙ c .if1 .left))
 
 returns-2 : tie.Need-returns-2 Inv-loop μ-loop
 returns-2 c = sym (find-last _ _ (λ m h l. c .before .loop .inv .1 m h (omega arith)))

@@ -24,7 +24,9 @@ shared-slice-read-if1 : tie.Need-shared-slice-read-if1 Inv-loop μ-loop
 shared-slice-read-if1 c = omega arith
 
 returns : tie.Need-returns Inv-loop μ-loop
-returns c = sym (find-first _ _ _ (omega arith) (c .before .before .before .loop .inv .1) (ap not (ne-eqb _ 1 (c .if1 .taken))))
+returns c =
+    let l = c .before .before .before .loop in
+    sym (find-first _ _ _ (omega arith) (l .inv .1) (ap not (ne-eqb _ 1 (c .if1 .taken))))
 
 add-i : tie.Need-add-i Inv-loop μ-loop
 add-i c = omega arith
@@ -33,7 +35,9 @@ loop-less : tie.Need-loop-less Inv-loop μ-loop
 loop-less c = omega arith
 
 loop-again : tie.Need-loop-again Inv-loop μ-loop
-loop-again c = (omega arith, span-more _ _ (c .before .before .before .loop .inv .1) (ap not (eq-eqb _ 1 (c .if1 .left))))
+loop-again c =
+    let l = c .before .before .before .loop in
+    (omega arith, span-more _ _ (l .inv .1) (ap not (eq-eqb _ 1 (c .if1 .left))))
 
 returns-2 : tie.Need-returns-2 Inv-loop μ-loop
 returns-2 c = sym (find-last _ _ (λ m h l. c .before .loop .inv .1 m h (omega arith)))

@@ -15,16 +15,35 @@ first-misplaced-requires : tie.Need-first-misplaced-requires
 first-misplaced-requires c κs = search needs
 
 returns-2 : tie.Need-returns-2
-returns-2 c = misplaced _ _ _ _ _ _ (c .before .before .before .remembered .ensures) (not-false _ (c .before .before .if1 .left)) _ _ (c .before .before .before .before .before .before .before .pre .1) (c .before .first-misplaced .ensures) (c .if2 .taken)
+returns-2 c =
+    let m = c .before in
+    let known = m .before in
+    let r = known .before in
+    misplaced _ _ _ _ _ _ (r .remembered .ensures) (not-false _ (known .if1 .left)) _ _ (r .before .before .before .before .pre)
+    (m .first-misplaced .ensures) (c .if2 .taken)
 
 first-unmarked-requires : tie.Need-first-unmarked-requires
 first-unmarked-requires c κs = search needs
 
 returns-3 : tie.Need-returns-3
-returns-3 c = unmarked _ _ _ _ _ _ (c .before .before .before .before .before .remembered .ensures) (not-false _ (c .before .before .before .before .if1 .left)) _ _ (c .before .before .before .before .before .before .before .before .before .pre .1) (c .before .before .before .first-misplaced .ensures) (c .before .before .if2 .left) _ (c .before .first-unmarked .ensures) (c .if3 .taken)
+returns-3 c =
+    let u = c .before in
+    let placed = u .before in
+    let m = placed .before in
+    let known = m .before in
+    let r = known .before in
+    unmarked _ _ _ _ _ _ (r .remembered .ensures) (not-false _ (known .if1 .left)) _ _ (r .before .before .before .before .pre)
+    (m .first-misplaced .ensures) (placed .if2 .left) _ (u .first-unmarked .ensures) (c .if3 .taken)
 
 returns-4 : tie.Need-returns-4
-returns-4 c = all-formed _ _ _ _ _ _ (c .before .before .before .before .before .remembered .ensures) (not-false _ (c .before .before .before .before .if1 .left)) _ _ (c .before .before .before .before .before .before .before .before .before .pre .1) (c .before .before .before .first-misplaced .ensures) (c .before .before .if2 .left) _ (c .before .first-unmarked .ensures) (c .if3 .left)
+returns-4 c =
+    let u = c .before in
+    let placed = u .before in
+    let m = placed .before in
+    let known = m .before in
+    let r = known .before in
+    all-formed _ _ _ _ _ _ (r .remembered .ensures) (not-false _ (known .if1 .left)) _ _ (r .before .before .before .before .pre)
+    (m .first-misplaced .ensures) (placed .if2 .left) _ (u .first-unmarked .ensures) (c .if3 .left)
 
 pub forms-spec : {M : Type 1} → statement M
 forms-spec =

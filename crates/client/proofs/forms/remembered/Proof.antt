@@ -1,7 +1,5 @@
--- None, or well formed and then the owner's byte.
+-- None, or well formed and then the owner.
 use mathlib.Core.Path.{sym, _∙_}
-use mathlib.Core.Logic.{⊎-elim}
-use native.Mathlib.Omega.{arith}
 use borrow.Author.Tests.{eq-eqb, ne-eqb, not-true, not-false}
 use Rattle.protocol.specs.Check.{remembers}
 use borrow.Author.Needs.{needs}
@@ -17,16 +15,19 @@ well-formed-requires c κs = search needs
 
 returns-2 : tie.Need-returns-2
 unfolding remembers
-returns-2 c = rw (ne-eqb _ 0 (c .before .before .if1 .left), sym (c .before .well-formed .ensures) ∙ not-true _ (c .if2 .taken))
+returns-2 c =
+    let formed = c .before in
+    rw (ne-eqb _ 0 (formed .before .if1 .left), sym (formed .well-formed .ensures) ∙ not-true _ (c .if2 .taken))
 
-shared-slice-read-result : tie.Need-shared-slice-read-result
-shared-slice-read-result c =
-    ⊎-elim (λ e. absurd (c .before .before .before .if1 .left e)) (λ e. omega arith) (c .before .before .before .before .before .pre)
+owner-requires : tie.Need-owner-requires
+owner-requires c κs = search needs
 
 returns-3 : tie.Need-returns-3
 unfolding remembers
-returns-3 c = rw (ne-eqb _ 0 (c .before .before .before .if1 .left), sym (c .before .before .well-formed .ensures) ∙ not-false _ (c .before .if2 .left))
+returns-3 c =
+    let test = c .before in
+    let formed = test .before in
+    rw (ne-eqb _ 0 (formed .before .if1 .left), sym (formed .well-formed .ensures) ∙ not-false _ (test .if2 .left), c .owner .ensures)
 
 pub remembered-spec : {M : Type 1} → statement M
-remembered-spec =
-    tie.close (tie.spec returns well-formed-requires returns-2 shared-slice-read-result returns-3)
+remembered-spec = tie.close (tie.spec returns well-formed-requires returns-2 owner-requires returns-3)

@@ -1,6 +1,6 @@
--- Three tests, and each of the last two reads the list where the record's owner stands.
+-- Three tests: the record by itself, whether it is the first, and its owner against that of the record before.
 use borrow.Author.Tests.{not-true, not-false}
-use Rattle.client.proofs.Records.{misformed, placed-first, placed-above}
+use Rattle.client.proofs.Lent.{misformed, placed-first, placed-above}
 use borrow.Author.Needs.{needs}
 use Rattle.client.proofs.forms.well_placed.Statement.{statement}
 use Rattle.client.proofs.forms.well_placed.Tie as tie
@@ -30,28 +30,26 @@ returns : tie.Need-returns
 returns c = misformed _ _ _ _ (c .before .well-formed .ensures) (not-true _ (c .if1 .taken))
 
 returns-2 : tie.Need-returns-2
-returns-2 c = placed-first _ _ _ _ (c .before .before .well-formed .ensures) (not-false _ (c .before .if1 .left)) (c .if2 .taken)
+returns-2 c =
+    let formed = c .before in
+    placed-first _ _ _ _ (formed .before .well-formed .ensures) (not-false _ (formed .if1 .left)) (c .if2 .taken)
 
-mul-result : tie.Need-mul-result
-mul-result c = search needs
+sub-owner : tie.Need-sub-owner
+sub-owner c = search needs
 
-sub-result : tie.Need-sub-result
-sub-result c = search needs
+owner-requires : tie.Need-owner-requires
+owner-requires c κs = search needs
 
-shared-slice-read-result : tie.Need-shared-slice-read-result
-shared-slice-read-result c = search needs
-
-mul-result-2 : tie.Need-mul-result-2
-mul-result-2 c = search needs
-
-add-result : tie.Need-add-result
-add-result c = search needs
-
-shared-slice-read-result-2 : tie.Need-shared-slice-read-result-2
-shared-slice-read-result-2 c = search needs
+owner-requires-2 : tie.Need-owner-requires-2
+owner-requires-2 c κs = search needs
 
 returns-3 : tie.Need-returns-3
-returns-3 c = placed-above _ _ _ _ (c .before .before .before .before .well-formed .ensures) (not-false _ (c .before .before .before .if1 .left)) (c .before .before .if2 .left)
+returns-3 c =
+    let low = c .before in
+    let later = low .before in
+    let formed = later .before in
+    placed-above _ _ _ _ (formed .before .well-formed .ensures) (not-false _ (formed .if1 .left)) (later .if2 .left) _ _
+    (low .owner .ensures) (c .owner2 .ensures)
 
 pub well-placed-spec : {M : Type 1} → statement M
 well-placed-spec =
@@ -66,10 +64,7 @@ well-placed-spec =
     well-formed-requires
     returns
     returns-2
-    mul-result
-    sub-result
-    shared-slice-read-result
-    mul-result-2
-    add-result
-    shared-slice-read-result-2
+    sub-owner
+    owner-requires
+    owner-requires-2
     returns-3)

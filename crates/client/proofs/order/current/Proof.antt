@@ -1,6 +1,6 @@
 -- Where the list has no record of the user the entry is no bytes; elsewhere the bytes are compared.
 use native.Mathlib.Omega.{arith}
-use Rattle.client.proofs.Records.{no-entry, same-entry}
+use Rattle.client.proofs.Lent.{no-entry, same-entry}
 use borrow.Author.Needs.{needs}
 use Rattle.client.proofs.order.current.Statement.{statement}
 use Rattle.client.proofs.order.current.Tie as tie

@@ -9,7 +9,6 @@ use lib.Dec.{eqb}
 use Rattle.protocol.specs.Version.{owner}
 use Rattle.protocol.specs.List.{recordAt}
 use Rattle.search.proofs.Search.{find-first, find-last, span-more}
-use Rattle.client.proofs.Records.{owner-at}
 use Rattle.client.proofs.order.entry.Statement.{statement}
 use Rattle.client.proofs.order.entry.Tie as tie
 
@@ -22,17 +21,13 @@ abbrev μ-loop : tie.MeasureT-loop
 loop-holds : tie.Need-loop-holds Inv-loop μ-loop
 loop-holds c = (omega arith, λ m h l. absurd (omega arith))
 
-mul-if1 : tie.Need-mul-if1 Inv-loop μ-loop
-mul-if1 c = omega arith
-
-add-if1 : tie.Need-add-if1 Inv-loop μ-loop
-add-if1 c = omega arith
-
-shared-slice-read-if1 : tie.Need-shared-slice-read-if1 Inv-loop μ-loop
-shared-slice-read-if1 c = omega arith
+owner-requires : tie.Need-owner-requires Inv-loop μ-loop
+owner-requires c κs = omega arith
 
 returns : tie.Need-returns Inv-loop μ-loop
-returns c = sym (find-first _ _ _ (omega arith) (c .before .before .before .loop .inv .1) (eq-eqb _ _ (owner-at (c .before .before .before .before .args .list .now) (c .before .before .before .loop .i) ∙ c .if1 .taken)))
+returns c =
+    let o = c .before in
+    sym (find-first _ _ _ (omega arith) (o .before .before .loop .inv .1) (eq-eqb _ _ (sym (o .owner .ensures) ∙ c .if1 .taken)))
 
 add-i : tie.Need-add-i Inv-loop μ-loop
 add-i c = omega arith
@@ -41,7 +36,9 @@ loop-less : tie.Need-loop-less Inv-loop μ-loop
 loop-less c = omega arith
 
 loop-again : tie.Need-loop-again Inv-loop μ-loop
-loop-again c = (omega arith, span-more _ _ (c .before .before .before .loop .inv .1) (ne-eqb _ _ (λ e. c .if1 .left (sym (owner-at (c .before .before .before .before .args .list .now) (c .before .before .before .loop .i)) ∙ e))))
+loop-again c =
+    let o = c .before in
+    (omega arith, span-more _ _ (o .before .before .loop .inv .1) (ne-eqb _ _ (λ e. c .if1 .left (o .owner .ensures ∙ e))))
 
 returns-2 : tie.Need-returns-2 Inv-loop μ-loop
 returns-2 c = sym (find-last _ _ (λ m h l. c .before .loop .inv .1 m h (omega arith)))
@@ -53,9 +50,7 @@ entry-spec =
     Inv-loop
     μ-loop
     loop-holds
-    mul-if1
-    add-if1
-    shared-slice-read-if1
+    owner-requires
     returns
     add-i
     loop-less

@@ -24,7 +24,8 @@ abbrev μ-loop : tie.MeasureT-loop
 μ-loop list next n structures i j₀ low j = n - j
 
 abbrev Inv-pairs : tie.InvT-pairs
-Inv-pairs list next n structures i₀ j₀ i j = (i ≤ n) × ((new : List ℕ) → next ≡ fields new .counts → (m : ℕ) → m < i → (l : ℕ) → m < l → l ≤ n → ordered list new m l ≡ true)
+Inv-pairs list next n structures i₀ j₀ i j =
+    (i ≤ n) × ((new : List ℕ) → next ≡ fields new .counts → (m : ℕ) → m < i → (l : ℕ) → m < l → l ≤ n → ordered list new m l ≡ true)
 
 abbrev μ-pairs : tie.MeasureT-pairs
 μ-pairs list next n structures i₀ j₀ i j = n - i
@@ -95,7 +96,8 @@ pairs-again c =
           below-more _ _ (o .pairs .inv .1 new e)
           (λ m a b.
           span-more _ (l .loop .j) (l .loop .inv .2 new)
-          (compared-new _ new _ _ _ (ap (λ (v : Version). v .counts) (f (o .pairs .i) (omega arith))) _ _ (omega arith) e (c .before .strictly-before .ensures) ∙
+          (compared-new _ new _ _ _ (ap (λ (v : Version). v .counts) (f (o .pairs .i) (omega arith))) _ _ (omega arith) e
+          (c .before .strictly-before .ensures) ∙
           not-false _ (c .if2 .left))
           m a (omega arith)),
     )
@@ -103,21 +105,24 @@ pairs-again c =
 returns : tie.Need-returns Inv-loop μ-loop Inv-pairs μ-pairs
 returns c =
     let o = c .before .before in
-    let f = o .before .read-list .ensures in
+    let list = o .before .before .before .args .list .now in
+    let i = o .pairs .i in
+    let low = ap (λ (v : Version). v .counts) (o .before .read-list .ensures i (omega arith)) in
     λ new e.
+    let lower = o .pairs .inv .1 new e in
     ⊎-elim (λ w. absurd (omega (arith, w .0 .left)))
     (⊎-elim
     (λ w.
+    let l = w .3 in
+    let high = ap (λ (v : Version). v .counts) (o .before .read-list .ensures (l .j) (w .4 .taken)) in
     rw (w .9)
-    (apart (ordered (o .before .before .before .args .list .now) new) _ (o .pairs .i) (w .3 .j) (w .3 .inv .0) (w .3 .inv .1) (o .pairs .inv .1 new e) (w .3 .inv .2 new)
-    (compared _ new _ _ _ (ap (λ (v : Version). v .counts) (f (o .pairs .i) (omega arith))) _ _ (w .4 .taken)
-    (ap (λ (v : Version). v .counts) (f (w .3 .j) (w .4 .taken))) (w .7 .ensures) ∙
-    not-true _ (w .8 .taken))))
+    (apart (ordered list new) _ i (l .j) (l .inv .0) (l .inv .1) lower (l .inv .2 new)
+    (compared _ new _ _ _ low _ _ (w .4 .taken) high (w .7 .ensures) ∙ not-true _ (w .8 .taken))))
     (λ w.
+    let l = w .3 in
     rw (w .7)
-    (apart (ordered (o .before .before .before .args .list .now) new) _ (o .pairs .i) (w .3 .j) (w .3 .inv .0) (w .3 .inv .1) (o .pairs .inv .1 new e) (w .3 .inv .2 new)
-    (compared-new _ new _ _ _ (ap (λ (v : Version). v .counts) (f (o .pairs .i) (omega arith))) _ _ (w .4 .left) e (w .5 .ensures) ∙
-    not-true _ (w .6 .taken)))))
+    (apart (ordered list new) _ i (l .j) (l .inv .0) (l .inv .1) lower (l .inv .2 new)
+    (compared-new _ new _ _ _ low _ _ (w .4 .left) e (w .5 .ensures) ∙ not-true _ (w .6 .taken)))))
     (c .before .pairs-test .came)
 
 returns-2 : tie.Need-returns-2 Inv-loop μ-loop Inv-pairs μ-pairs

@@ -6,13 +6,14 @@ use native.Mathlib.Omega.{arith}
 use lib.ListN.{length, getD, length-set}
 use Rattle.protocol.specs.List.{recordAt}
 use Rattle.version.specs.Version.{fields}
-use Rattle.client.specs.Stages.{none}
-use Rattle.client.proofs.Records.{read-more}
+use Rattle.client.specs.Internal.Stages.{none}
+use Rattle.client.proofs.Lent.{read-more}
 use Rattle.client.proofs.order.read_list.Statement.{statement}
 use Rattle.client.proofs.order.read_list.Tie as tie
 
 abbrev Inv-loop : tie.InvT-loop
-Inv-loop list n structures₀ i₀ structures i = (i ≤ n) × (length structures ≡ 16) × ((m : ℕ) → m < i → getD structures m none ≡ fields (recordAt list m))
+Inv-loop list n structures₀ i₀ structures i =
+    (i ≤ n) × (length structures ≡ 16) × ((m : ℕ) → m < i → getD structures m none ≡ fields (recordAt list m))
 
 abbrev μ-loop : tie.MeasureT-loop
 μ-loop list n structures₀ i₀ structures i = n - i
@@ -54,11 +55,13 @@ loop-less : tie.Need-loop-less Inv-loop μ-loop
 loop-less c = omega arith
 
 loop-again : tie.Need-loop-again Inv-loop μ-loop
-loop-again c = (
-  omega arith,
-  simp length-set (c .before .before .before .loop .inv .1),
-  read-more (c .before .before .before .before .before .args .list .now) (c .before .before .before .loop .structures) (c .before .before .before .loop .i) _ (omega arith) (c .before .before .before .loop .inv .2) (c .read .ensures),
-)
+loop-again c =
+    let k = c .before .before .before in
+    let l = k .loop in (
+      omega arith,
+      simp length-set (l .inv .1),
+      read-more (k .before .before .args .list .now) (l .structures) (l .i) _ (omega arith) (l .inv .2) (c .read .ensures),
+    )
 
 returns : tie.Need-returns Inv-loop μ-loop
 returns c = λ m h. c .before .loop .inv .2 m (omega arith)

@@ -25,7 +25,10 @@ returns-4 : tie.Need-returns-4
 returns-4 c =
     sym
     (sizes-mean _ _ _ _ _ _ _ .refuses
-    (inr ((omega arith, omega arith, omega arith), (λ f. not-both (c .before .none-or-one .ensures .1 (f .none-or-one)) (not-true _ (c .if4 .taken)), refl, refl, refl))))
+    (inr (
+      (omega arith, omega arith, omega arith),
+      (λ f. not-both (c .before .none-or-one .ensures .1 (f .none-or-one)) (not-true _ (c .if4 .taken)), refl, refl, refl),
+    )))
 
 mul-if5 : tie.Need-mul-if5
 mul-if5 c = search needs
@@ -47,11 +50,12 @@ returns-9 c = sym (sizes-mean _ _ _ _ _ _ _ .refuses (inr ((omega arith, omega a
 
 returns-10 : tie.Need-returns-10
 returns-10 c =
+    let fits = c .before .before .before .before .before in
     sym
     (sizes-mean _ _ _ _ _ _ _ .accepts (
       (omega arith, omega arith, omega arith),
       record {
-        none-or-one = c .before .before .before .before .before .before .none-or-one .ensures .0 (not-false _ (c .before .before .before .before .before .if4 .left));
+        none-or-one = fits .before .none-or-one .ensures .0 (not-false _ (fits .if4 .left));
         whole = omega arith;
         at-most = omega arith;
         one-mark-each = omega arith;
