@@ -3,10 +3,10 @@ use Prim.Native.Nat.{ℕ, suc, _+_, _-_, _*_, _≤_, _<_}
 use mathlib.Core.List.{List}
 use mathlib.Core.Path.{_≡_, sym, ap, subst, _∙_}
 use native.Mathlib.Omega.{arith}
-use lib.ListN.{length, getD, take, drop}
+use lib.ListN.{length, take, drop}
 use lib.Seq.{take-all}
 use Rattle.refusal.specs.Answer.{Answer, refused}
-use Rattle.layout.specs.Bytes.{values}
+use Rattle.layout.specs.Bytes.{bytesAt}
 use Rattle.layout.proofs.Values.{values-part}
 use Rattle.itable.specs.Block.{size, toChild}
 use Rattle.itable.specs.declared.Link.{Link}
@@ -19,7 +19,7 @@ use Rattle.lookup.specs.declared.Step.{Step}
 use Rattle.lookup.specs.declared.Step.the-variants.{Ends, Leads}
 
 -- A handle that is read whole.
-pub whole-handle : (handle : List ℕ) → length handle ≡ 32 → values (λ k. getD handle (0 + k) 0) 0 32 ≡ handle
+pub whole-handle : (handle : List ℕ) → length handle ≡ 32 → bytesAt handle 0 32 ≡ handle
 whole-handle handle l = values-part handle 0 32 (omega arith) ∙ take-all 32 handle (omega arith)
 
 module _ (path : List ℕ) (i n d : ℕ) (k : Link) where

@@ -11,10 +11,10 @@ returns : tie.Need-returns
 returns c = below-root _ _ _ (c .before .kind .ensures) (c .if1 .taken)
 
 returns-2 : tie.Need-returns-2
-returns-2 c = no-kind _ _ _ (c .before .before .kind .ensures) (c .before .if1 .left) (c .if2 .taken)
+returns-2 c = let root = c .before in no-kind _ _ _ (root .before .kind .ensures) (root .if1 .left) (c .if2 .taken)
 
 returns-3 : tie.Need-returns-3
-returns-3 c = root-kind _ _ _ (c .before .before .kind .ensures) (c .before .if1 .left) (c .if2 .left)
+returns-3 c = let root = c .before in root-kind _ _ _ (root .before .kind .ensures) (root .if1 .left) (c .if2 .left)
 
 pub kind-due-spec : {M : Type 1} → statement M
 kind-due-spec = tie.close (tie.spec kind-requires returns returns-2 returns-3)

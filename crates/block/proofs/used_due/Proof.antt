@@ -11,7 +11,7 @@ returns : tie.Need-returns
 returns c = too-many _ _ _ (c .before .used .ensures) (c .if1 .taken)
 
 returns-2 : tie.Need-returns-2
-returns-2 c = some-used _ _ _ (c .before .before .used .ensures) (c .before .if1 .left) (c .if2 .taken)
+returns-2 c = let few = c .before in some-used _ _ _ (few .before .used .ensures) (few .if1 .left) (c .if2 .taken)
 
 returns-3 : tie.Need-returns-3
 returns-3 c = let none = c .before in empty-child _ _ _ (none .before .before .used .ensures) (none .if2 .left) (c .if3 .taken)

@@ -26,7 +26,7 @@ refused-requires-3 : tie.Need-refused-requires-3
 refused-requires-3 c κs = search needs
 
 returns : tie.Need-returns
-returns c = here-long _ _ _ (c .before .before .before .e .given .1) (c .before .if1 .taken) (c .refused3 .ensures)
+returns c = let more = c .before in here-long _ _ _ (more .before .before .e .given .1) (more .if1 .taken) (c .refused3 .ensures)
 
 value-requires : tie.Need-value-requires
 value-requires c κs = search needs
@@ -41,7 +41,7 @@ refused-requires-4 : tie.Need-refused-requires-4
 refused-requires-4 c κs = search needs
 
 returns-2 : tie.Need-returns-2
-returns-2 c = nowhere-long _ _ _ (c .before .before .enum-told3 .given .1) (c .before .if2 .taken) (c .refused4 .ensures)
+returns-2 c = let more = c .before in nowhere-long _ _ _ (more .before .enum-told3 .given .1) (more .if2 .taken) (c .refused4 .ensures)
 
 returns-3 : tie.Need-returns-3
 returns-3 c = wrong-hash _ _ _ (c .before .enum-told .given .1) (c .refused .ensures)
@@ -50,7 +50,7 @@ returns-4 : tie.Need-returns-4
 returns-4 c = malformed _ _ _ (c .before .enum-told2 .given .1) (c .refused2 .ensures)
 
 returns-5 : tie.Need-returns-5
-returns-5 c = here-last _ _ _ (c .before .before .before .e .given .1) (c .before .if1 .left) (c .value .ensures)
+returns-5 c = let last = c .before in here-last _ _ _ (last .before .before .e .given .1) (last .if1 .left) (c .value .ensures)
 
 returns-6 : tie.Need-returns-6
 returns-6 c = nowhere-last _ _ _ (c .before .enum-told3 .given .1) (c .if2 .left)
