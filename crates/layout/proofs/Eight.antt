@@ -1,12 +1,12 @@
 -- Laws of big-endian numbers of eight bytes: what was written is read back, and reading at a place is reading at the front of what follows it.
-use Prim.Native.Nat.{ℕ, _+_, _*_, _/_, _%_, _^_, _≤_}
+use Prim.Native.Nat.{ℕ, _+_, _*_, _/_, _%_, _^_}
 use mathlib.Core.List.{List, _++_}
 use mathlib.Core.Path.{_≡_, refl, ap₂, _∙_}
 use native.Mathlib.Omega.{arith}
-use lib.ListN.{length, getD, take, drop}
+use lib.ListN.{length, getD, drop}
 use lib.Seq.{getD-drop}
 use Rattle.layout.specs.Bytes.{four, eight, bytes4, bytes8}
-use Rattle.layout.proofs.Bytes.{four-bytes4, four-part}
+use Rattle.layout.proofs.Bytes.{four-bytes4}
 
 halves : (x : ℕ) → x / 2 ^ 32 * 2 ^ 32 + x % 2 ^ 32 ≡ x
 halves x = omega arith
@@ -36,10 +36,3 @@ eight-drop b at =
       getD-behind b at 6 (at + 4 + 2) (omega arith),
       getD-behind b at 7 (at + 4 + 3) (omega arith),
     )
-
--- In the n bytes from a on.
-pub eight-part : (xs : List ℕ) (a n i : ℕ) → i + 8 ≤ n → eight (take n (drop a xs)) i ≡ eight xs (a + i)
-unfolding eight
-eight-part xs a n i h =
-    let e : a + (i + 4) ≡ a + i + 4 = omega arith in
-    rw (four-part xs a n i (omega arith), four-part xs a n (i + 4) (omega arith), e)

@@ -1,7 +1,8 @@
 -- The example's output, by computation on its bytes.
 use mathlib.Core.Path.{refl}
 use Rattle.refusal.specs.Order.{inOrder}
-use Rattle.search.specs.Search.{find, every, same}
+use Rattle.search.specs.Search.{find, every}
+use Rattle.layout.specs.Strings.{same}
 use Rattle.search.specs.Pairs.{everyPair, firstLow, firstHigh}
 use Rattle.layout.specs.Bytes.{four, bytes4, values}
 use Rattle.protocol.specs.Version.{counts, structure, wellFormed, countsBefore, countsStrictlyBefore}
