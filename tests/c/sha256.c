@@ -100,20 +100,9 @@ static void edges(void)
 	check("a result of no bytes is refused", refuses(message, 3, 0));
 }
 
-/* The fields of an answer, as the header's accessors read them. */
-static void answers(void)
-{
-	uint64_t pair = 0x0000000f00000107u, most = UINT64_MAX;
-
-	check("an answer's refusal", sundr_refusal(pair) == SUNDR_UNORDERED && sundr_refusal(0) == SUNDR_ACCEPTED);
-	check("an answer's first position", sundr_first(pair) == 1 && sundr_first(most) == 0xffffff);
-	check("an answer's second position", sundr_second(pair) == 15 && sundr_second(most) == UINT32_MAX);
-}
-
 int main(void)
 {
 	published();
 	edges();
-	answers();
 	return finish();
 }

@@ -68,6 +68,12 @@ impl Seen {
     }
 }
 
+/// The second implementation's answer.
+fn due(request: &Request) -> Result<[u8; RECORD], Refusal> {
+    let Request { users, user, memory, list, marks, handle, out_len } = request;
+    check(*users, *user, memory, list, marks, handle, *out_len)
+}
+
 /// One call, on the library alone: the new structure, if it accepted.
 pub fn ask(request: &Request) -> Option<Version> {
     let Request { users, user, memory, list, marks, handle, out_len } = request;
@@ -87,7 +93,7 @@ pub fn judge(request: &Request, seen: &mut Seen, random: &mut Random) -> Result<
     let [m, l, k, h] = lent.each_ref().map(|buffer| (buffer.pointer(), buffer.len()));
     let answer =
         unsafe { sundr_check(*users, *user, m.0, m.1, l.0, l.1, k.0, k.1, h.0, h.1, out.pointer_mut(), out.len()) };
-    let due = check(*users, *user, memory, list, marks, handle, *out_len);
+    let due = due(request);
     seen.count(&due, list.len() / RECORD);
 
     let judged = || {
@@ -120,41 +126,65 @@ fn random_lists() -> Outcome {
     seen.at_least(5_000)
 }
 
-/// Each position of refusal 7: two records apart, at each pair of places, in an ordered list.
+/// Judges a list of sixteen records that are all ordered but for two, if any: refused with 7 at these two, or accepted.
+fn judge_apart(list: Vec<Version>, user: usize, apart: Option<(usize, usize)>, random: &mut Random) -> Outcome {
+    let request = Draft::whole(list, user).request(random);
+    judge(&request, &mut Seen::default(), random)?;
+    let refusal = apart.map(|(i, j)| Refusal(7, i.min(j) as u32, i.max(j) as u32));
+    equal("the second implementation's refusal", due(&request).err(), refusal)
+}
+
+/// A user that is none of these.
+fn other_than(users: &[usize], random: &mut Random) -> usize {
+    loop {
+        let user = random.below(USERS);
+        if !users.contains(&user) {
+            return user;
+        }
+    }
+}
+
+/// Each position of refusal 7: two records apart, at each pair of places. Each lacks an operation that the other
+/// counts, neither its owner's own. Of one record by itself, no other is apart.
 fn every_pair() -> Outcome {
     let mut random = Random::new(16);
-    let mut seen = Seen::default();
     let counts: [u32; USERS] = std::array::from_fn(|user| 10 + user as u32);
     let at = |i: usize| Version::new(i as u8, [i as u8; 32], counts);
     for user in 0..USERS {
         for i in 0..USERS {
             for j in 0..USERS {
+                let a = other_than(&[i], &mut random);
+                let b = other_than(&[j, a], &mut random);
                 let mut list: Vec<Version> = (0..USERS).map(at).collect();
-                let (a, b) = (random.below(USERS), random.below(USERS));
                 list[i].counts[a] -= 1;
-                list[j].counts[b] -= 1;
-                judge(&Draft::whole(list, user).request(&mut random), &mut seen, &mut random)?;
+                if i != j {
+                    list[j].counts[b] -= 1;
+                }
+                judge_apart(list, user, (i != j).then_some((i, j)), &mut random)?;
             }
         }
     }
     Ok(())
 }
 
-/// Each of the sixteen counts decides, and each of the four bytes: two structures that differ in one.
+/// Each of the sixteen counts decides, and each of the four bytes: of two structures one lacks operations of a, and the
+/// other of b. They are apart exactly if some are lacking and a is not b. The client has made one operation, so that a
+/// count may be the last number.
 fn every_count() -> Outcome {
     let mut random = Random::new(4);
-    let mut seen = Seen::default();
     for a in 0..USERS {
         for b in 0..USERS {
             for count in [2, 3, 0x100, 0x1_0000, 0x100_0000, 0x7fff_ffff, 0x8000_0000, u32::MAX - 1, u32::MAX] {
                 for lower in [1, 2, count - 1, count] {
+                    let user = other_than(&[a, b], &mut random);
+                    let i = other_than(&[a], &mut random);
+                    let j = other_than(&[b, i], &mut random);
+                    let counts = std::array::from_fn(|v| if v == user { 1 } else { count });
                     let mut list: Vec<Version> =
-                        (0..USERS as u8).map(|v| Version::new(v, some_handle(&mut random), [count; USERS])).collect();
-                    let (i, j) = (random.below(USERS), random.below(USERS));
+                        (0..USERS as u8).map(|v| Version::new(v, some_handle(&mut random), counts)).collect();
                     list[i].counts[a] = lower;
                     list[j].counts[b] = lower;
-                    let draft = Draft::whole(list, random.below(USERS));
-                    judge(&draft.request(&mut random), &mut seen, &mut random)?;
+                    judge_apart(list, user, (lower != count && a != b).then_some((i, j)), &mut random)?;
                 }
             }
         }
@@ -162,22 +192,21 @@ fn every_count() -> Outcome {
     Ok(())
 }
 
-/// Every number of users with every user, and with lists of one record at every owner.
+/// Every number of users with every user, without a memory, and with one that is the list's only record.
 fn every_user() -> Outcome {
     let mut random = Random::new(65_536);
     let mut seen = Seen::default();
     for users in 0..=255 {
         for user in 0..=255 {
-            let memory = (random.below(2) == 0).then(|| {
-                let mut counts = [0; USERS];
-                counts[usize::from(user) % USERS] = 1;
-                Version::new(user, some_handle(&mut random), counts)
-            });
-            let list: Vec<Version> = memory.into_iter().collect();
-            judge(&Draft { users, user, memory, list }.request(&mut random), &mut seen, &mut random)?;
+            let mut counts = [0; USERS];
+            counts[usize::from(user) % USERS] = 1;
+            for memory in [None, Some(Version::new(user, some_handle(&mut random), counts))] {
+                let list: Vec<Version> = memory.into_iter().collect();
+                judge(&Draft { users, user, memory, list }.request(&mut random), &mut seen, &mut random)?;
+            }
         }
     }
-    equal("acceptances", seen.accepted, 136)
+    equal("acceptances", seen.accepted, 2 * 136)
 }
 
 /// Every value of a mark, at every place.
@@ -198,7 +227,11 @@ fn every_mark() -> Outcome {
             judge(&request, &mut seen, &mut random)?;
         }
     }
-    equal("acceptances", seen.accepted, 16)
+    equal(
+        "acceptances, and refusals 4 by place",
+        (seen.accepted, seen.refused[4][..USERS].to_vec()),
+        (16, vec![255; USERS]),
+    )
 }
 
 /// Every length around the right one, of each argument, with each number of records.
@@ -260,9 +293,9 @@ fn histories() -> Outcome {
 pub fn checks(runner: &mut Runner) {
     runner.check("check: 700,000 lists of an honest server, with up to five lies and damages in each", random_lists);
     runner.check("check: 5,000 histories of 60 lists of a server that rolls back, forks and hides", histories);
-    runner.check("check: two of sixteen records lowered, at every pair of places, for every user", every_pair);
-    runner.check("check: every pair of counts, each side of each byte's limit", every_count);
-    runner.check("check: every number of users with every user", every_user);
+    runner.check("check: two of sixteen records apart, at every pair of places, for every user", every_pair);
+    runner.check("check: every pair of counts decides, each side of each byte's limit", every_count);
+    runner.check("check: every number of users with every user, with and without a memory", every_user);
     runner.check("check: every mark at every place", every_mark);
     runner.check("check: lengths 0 to 200 and by the list's, for each argument and number of records", every_length);
 }

@@ -4,6 +4,7 @@ use crate::ffi::{sundr_table_write, Answer};
 use crate::guarded::Guarded;
 use crate::random::Random;
 use crate::reference::itable::{write, BLOCK, MOST_FILES};
+use crate::reference::Refusal;
 use crate::runner::{equal, hex, Outcome, Runner};
 use std::collections::BTreeSet;
 use std::ptr::{null, null_mut};
@@ -11,8 +12,8 @@ use std::ptr::{null, null_mut};
 /// Ways to number files.
 pub const NUMBERINGS: usize = 6;
 
-/// Ascending i-numbers: from 0 on, up to 2^64 - 1, across 2^63, whole multiples of 256, or any,
-/// with both ends among them.
+/// Ascending i-numbers: from 0 on, up to 2^64 - 1, across 2^63, multiples of 256, spread over all,
+/// or any with both ends among them (of one number, the lower).
 pub fn numbers(numbering: usize, count: usize, random: &mut Random) -> Vec<u64> {
     let count = count as u64;
     match numbering {
@@ -148,34 +149,44 @@ fn every_size() -> Outcome {
     Ok(())
 }
 
-/// Numbers that do not ascend, at every place: equal, lower, or higher only as signed numbers.
+/// Numbers that do not ascend at a place and do before it: equal, lower, swapped, or ascending as signed numbers only.
+fn not_ascending(place: usize, count: usize, fault: usize, random: &mut Random) -> Vec<u64> {
+    let mut numbers = numbers(random.below(NUMBERINGS), count, random);
+    match fault {
+        0 => numbers[place] = numbers[place - 1],
+        1 => numbers[place] = numbers[place - 1].saturating_sub(1 + random.next() % 300),
+        2 => numbers.swap(place, place - 1),
+        // The first `place` of them are 2^63 and above.
+        _ => {
+            let first = (1u64 << 63) - (count - place) as u64;
+            numbers = (0..count as u64).map(|i| first + i).collect();
+            numbers.sort_by_key(|&number| number as i64);
+        }
+    }
+    numbers
+}
+
+/// A fault of order at every place of small tables and of one of three levels, and at some places of the largest;
+/// then a second fault, with which the first of them is told.
 fn every_fault_of_order() -> Outcome {
     let mut random = Random::new(11);
     let mut seen = Seen::default();
     for count in (2..=40).chain([257, MOST_FILES]) {
         let places: Vec<usize> =
-            if count > 40 { (0..300).map(|_| 1 + random.below(count - 1)).collect() } else { (1..count).collect() };
+            if count > 257 { (0..300).map(|_| 1 + random.below(count - 1)).collect() } else { (1..count).collect() };
         for place in places {
             for fault in 0..4 {
-                let numbering = random.below(NUMBERINGS);
-                let mut numbers = numbers(numbering, count, &mut random);
-                match fault {
-                    0 => numbers[place] = numbers[place - 1],
-                    1 => numbers[place] = numbers[place - 1].saturating_sub(1 + random.next() % 300),
-                    2 => numbers.swap(place, place - 1),
-                    _ => numbers.sort_by_key(|&number| number as i64),
-                }
-                if random.below(3) == 0 {
-                    let other = random.below(count);
-                    numbers[other] = numbers[random.below(count)];
-                }
+                let mut numbers = not_ascending(place, count, fault, &mut random);
+                let handles = handles(count, &mut random);
                 let out_len = if random.below(2) == 0 { random.below(BLOCK) } else { BLOCK * blocks_due(count) };
-                judge(&numbers, &handles(count, &mut random), out_len, &mut seen, &mut random)?;
+                judge(&numbers, &handles, out_len, &mut seen, &mut random)?;
+                let refusal = write(&numbers, &handles, out_len).err();
+                equal("the second implementation's refusal", refusal, Some(Refusal(11, place as u32, 0)))?;
+                let other = random.below(count);
+                numbers[other] = numbers[random.below(count)];
+                judge(&numbers, &handles, out_len, &mut seen, &mut random)?;
             }
         }
-    }
-    if seen.refused[11] < 2_000 {
-        return Err(format!("refused with 11 only {} times", seen.refused[11]));
     }
     Ok(())
 }
@@ -247,7 +258,10 @@ fn nothing_at_null() -> Outcome {
 pub fn checks(runner: &mut Runner) {
     runner
         .check("table: every size 0 to 300 and by 4,096, six numberings; room exact, longer, a byte short", every_size);
-    runner.check("table: numbers that do not ascend, at every place", every_fault_of_order);
+    runner.check(
+        "table: numbers that do not ascend, at every place of 2 to 40 and 257, at 300 of 4,096",
+        every_fault_of_order,
+    );
     runner.check("table: handles of other lengths, and over 4,096 files", other_lengths);
     runner.check("table: 20,000 random tables, with faults together", random_tables);
     runner.check("table: nothing at NULL", nothing_at_null);

@@ -2,13 +2,14 @@
 
 use crate::ffi::{sundr_lookup, Answer};
 use crate::guarded::Guarded;
-use crate::itable::{handles, numbers, written, NUMBERINGS};
+use crate::itable::NUMBERINGS;
 use crate::paths::{some_number, Path, Request};
 use crate::random::Random;
 use crate::reference::itable::{lookup, BLOCK, LEAF, MOST_FILES};
-use crate::reference::sha256::digest;
 use crate::reference::Refusal;
 use crate::runner::{equal, hex, Outcome, Runner};
+use crate::tables::{refusal_of, wrong_paths, Table, CHANGES};
+use std::collections::BTreeSet;
 
 /// How often each answer was due, by the blocks of the path and the position.
 #[derive(Default)]
@@ -24,7 +25,7 @@ struct Seen {
 }
 
 impl Seen {
-    fn count(&mut self, due: &Result<Option<[u8; 32]>, Refusal>, request: &Request) {
+    fn count(&mut self, due: &Due, request: &Request) {
         let blocks = request.path.len() / BLOCK;
         match due {
             Ok(Some(handle)) => {
@@ -62,8 +63,12 @@ impl Seen {
     }
 }
 
-/// One call, judged: the answer, the handle, and every byte that is not to change.
-fn judge(request: &Request, seen: &mut Seen, random: &mut Random) -> Outcome {
+/// A lookup's answer: the file's handle, or none if the table has no such file.
+type Due = Result<Option<[u8; 32]>, Refusal>;
+
+/// One call, judged: the answer, the handle, and every byte that is not to change. Gives the second implementation's
+/// answer.
+fn call(request: &Request, seen: &mut Seen, random: &mut Random) -> Result<Due, String> {
     let Request { handle, number, path, out_len } = request;
     let lent_handle = Guarded::new(handle, random);
     let lent_path = Guarded::new(path, random);
@@ -96,90 +101,74 @@ fn judge(request: &Request, seen: &mut Seen, random: &mut Random) -> Outcome {
     judged().map_err(|e: String| {
         let blocks: Vec<String> = path.chunks(BLOCK).map(hex).collect();
         format!("{e}; number {number:x} in {blocks:?}, handle {}, out of {out_len} bytes", hex(handle))
-    })
+    })?;
+    Ok(due)
 }
 
-/// The written blocks that this number leads along, by their places: leaves, blocks over them, root.
-fn path_of(files: &[u64], number: u64, blocks: &[u8]) -> Vec<u8> {
-    let leaves = files.len().div_ceil(16).max(1);
-    let all = blocks.len() / BLOCK;
-    // The last file at or below the number is in the leaf that answers.
-    let file = files.partition_point(|&file| file <= number).checked_sub(1);
-    let places = match (all - leaves, file) {
-        (0, _) | (_, None) => vec![all - 1],
-        (1, Some(file)) => vec![all - 1, file / 16],
-        (_, Some(file)) => vec![all - 1, leaves + file / 256, file / 16],
-    };
-    places.iter().flat_map(|place| blocks[place * BLOCK..][..BLOCK].to_vec()).collect()
+fn judge(request: &Request, seen: &mut Seen, random: &mut Random) -> Outcome {
+    call(request, seen, random).map(drop)
 }
 
-/// Blocks that the library wrote answer as the table does, for each file and the numbers beside it.
+/// The same where it is known what is due, of both implementations.
+fn judge_as(due: Due, request: &Request, seen: &mut Seen, random: &mut Random) -> Outcome {
+    equal("the second implementation's answer", call(request, seen, random)?, due)
+}
+
+/// Blocks that the library wrote answer as the table does: for each file, both numbers beside it, and numbers at
+/// the ends and in the middle.
 fn written_tables() -> Outcome {
     let mut random = Random::new(273);
     let mut seen = Seen::default();
+    let mut files = 0;
     for count in [0, 1, 2, 15, 16, 17, 31, 32, 33, 255, 256, 257, 258, 513, 4_095, MOST_FILES] {
         for numbering in 0..NUMBERINGS {
-            let files = numbers(numbering, count, &mut random);
-            let handles = handles(count, &mut random);
-            let blocks = written(&files, &handles, &mut random)?;
-            let root = digest(&blocks[blocks.len() - BLOCK..]).to_vec();
-            let mut ask = |number: u64, random: &mut Random| {
-                let path = path_of(&files, number, &blocks);
-                let due = match files.binary_search(&number) {
-                    Ok(file) => Ok(Some(handles[32 * file..][..32].try_into().unwrap())),
-                    Err(_) => Ok(None),
-                };
-                equal("the second implementation's answer", lookup(&root, number, &path, 32), due)?;
-                judge(&Request { handle: root.clone(), number, path, out_len: 32 }, &mut seen, random)
-            };
-            for number in [0, 1, 1 << 63, u64::MAX - 1, u64::MAX] {
-                ask(number, &mut random)?;
+            let table = Table::any(numbering, count, &mut random)?;
+            let mut asked = BTreeSet::from([0, 1, 1 << 63, u64::MAX - 1, u64::MAX]);
+            for &file in &table.files {
+                asked.extend([file.saturating_sub(1), file, file.saturating_add(1)]);
             }
-            for &file in &files {
-                // All of a small table, a part of a large one, each side of each leaf.
-                if count < 600 || random.below(4) == 0 || numbering == 5 {
-                    ask(file, &mut random)?;
-                }
-                if random.below(4) == 0 {
-                    ask(file.saturating_sub(1), &mut random)?;
-                    ask(file.saturating_add(1), &mut random)?;
-                }
+            for number in asked {
+                let request = table.request(number, &table.path(number));
+                judge_as(Ok(table.says(number)), &request, &mut seen, &mut random)?;
             }
+            files += table.files.len();
         }
     }
-    if seen.found.iter().sum::<usize>() < 20_000 || seen.absent.iter().sum::<usize>() < 5_000 {
-        return Err(format!("few answers: {:?} found, {:?} absent", seen.found, seen.absent));
-    }
-    Ok(())
+    let absent = seen.absent.iter().sum::<usize>() + seen.absent_at_root;
+    equal(
+        "files, files found, and numbers that are none",
+        [files, seen.found.iter().sum(), absent],
+        [59_262, 59_262, 58_742],
+    )
 }
 
-/// Paths that lead along written blocks, each of a wrong one: its neighbour, another table's, too few, too many.
+/// Written blocks at wrong places: every path differs from the right one, and is refused for that.
 fn wrong_blocks() -> Outcome {
     let mut random = Random::new(8);
     let mut seen = Seen::default();
+    let mut made = [0; 5];
     for count in [1, 16, 17, 256, 257, 1_000, MOST_FILES] {
-        let files = numbers(random.below(NUMBERINGS), count, &mut random);
-        let blocks = written(&files, &handles(count, &mut random), &mut random)?;
-        let root = digest(&blocks[blocks.len() - BLOCK..]).to_vec();
-        let all = blocks.len() / BLOCK;
-        for _ in 0..1_500 {
-            let number = if random.below(4) == 0 { some_number(&mut random) } else { files[random.below(count)] };
-            let mut path = path_of(&files, number, &blocks);
-            for _ in 0..random.below(3) {
-                let other = &blocks[BLOCK * random.below(all)..][..BLOCK];
-                match random.below(3) {
-                    0 => path.extend(other),
-                    1 => {
-                        let at = BLOCK * random.below(path.len() / BLOCK);
-                        path[at..at + BLOCK].copy_from_slice(other);
+        let table = Table::any(random.below(NUMBERINGS), count, &mut random)?;
+        // The same files with other handles: no block is a block of the first.
+        let other = Table::of(table.files.clone(), table.handles.iter().map(|byte| !byte).collect(), &mut random)?;
+        let mut asked = vec![table.files[0], table.files[count - 1]];
+        asked.extend((0..4).map(|_| table.files[random.below(count)]));
+        asked.extend((0..4).map(|_| some_number(&mut random)));
+        for number in asked {
+            let right = table.path(number);
+            for (change, paths) in wrong_paths(number, &table, &other).iter().enumerate() {
+                for path in paths {
+                    if *path == right {
+                        return Err(format!("{} left the path as it was", CHANGES[change]));
                     }
-                    _ => path.truncate(BLOCK * (1 + random.below(path.len() / BLOCK))),
+                    let request = table.request(number, path);
+                    judge_as(Err(refusal_of(path, &right)), &request, &mut seen, &mut random)?;
+                    made[change] += 1;
                 }
             }
-            judge(&Request { handle: root.clone(), number, path, out_len: 32 }, &mut seen, &mut random)?;
         }
     }
-    Ok(())
+    equal("paths by change", made, [10_380, 132, 84, 132, 14_342])
 }
 
 /// Paths made by hand, with faults under fitting hashes, and with damages.
@@ -200,15 +189,17 @@ fn random_paths() -> Outcome {
     seen.at_least(2_000)
 }
 
-/// Each byte of each block changed, before and after its hash was taken.
+/// Each byte of each block changed in one bit, before and after its hash was taken. After it, the hash shows it.
 fn every_byte() -> Outcome {
     let mut random = Random::new(642);
     let mut seen = Seen::default();
     for levels in 1..=3 {
-        let mut path = Path::of(levels, some_number(&mut random), &mut random);
-        while path.blocks.len() < levels || path.blocks.iter().any(|block| !(4..12).contains(&block.0[1])) {
-            path = Path::of(levels, some_number(&mut random), &mut random);
-        }
+        let path = loop {
+            let path = Path::leading(levels, some_number(&mut random), &mut random);
+            if path.blocks.iter().all(|block| (4..12).contains(&block.0[1])) {
+                break path;
+            }
+        };
         for depth in 0..levels {
             for at in 0..BLOCK {
                 let change = 1 << random.below(8);
@@ -217,40 +208,43 @@ fn every_byte() -> Outcome {
                 judge(&forged.sealed(), &mut seen, &mut random)?;
                 let mut damaged = path.clone().sealed();
                 damaged.path[BLOCK * depth + at] ^= change;
-                judge(&damaged, &mut seen, &mut random)?;
+                judge_as(Err(Refusal(8, depth as u32, 0)), &damaged, &mut seen, &mut random)?;
             }
         }
     }
     Ok(())
 }
 
-/// Each kind, and each number of used slots, at each place, under fitting hashes.
+/// Each kind, each number of used slots, and no used slots in a block of each kind, at each place, under fitting hashes.
 fn every_kind_and_use() -> Outcome {
     let mut random = Random::new(256);
     let mut seen = Seen::default();
     for levels in 1..=3 {
         for depth in 0..levels {
             for byte in 0..=255 {
-                for at in 0..2 {
-                    let mut path = Path::of(levels, u64::MAX - 500, &mut random);
-                    let depth = depth.min(path.blocks.len() - 1);
-                    path.blocks[depth].0[at] = byte;
-                    judge(&path.clone().sealed(), &mut seen, &mut random)?;
-                    // An empty block, of each kind.
-                    path.blocks[depth].0[1..].fill(0);
-                    judge(&path.sealed(), &mut seen, &mut random)?;
-                }
+                let path = Path::leading(levels, u64::MAX - 500, &mut random);
+                let mut judged = |alter: &dyn Fn(&mut [u8; BLOCK])| {
+                    let mut altered = path.clone();
+                    alter(&mut altered.blocks[depth].0);
+                    judge(&altered.sealed(), &mut seen, &mut random)
+                };
+                judged(&|block| block[0] = byte)?;
+                judged(&|block| block[1] = byte)?;
+                judged(&|block| {
+                    block.fill(0);
+                    block[0] = byte;
+                })?;
             }
         }
     }
     Ok(())
 }
 
-/// Each length of each argument, around the right ones, alone and with other faults.
+/// Each length of each argument, around the right ones, alone and with another fault.
 fn every_length() -> Outcome {
     let mut random = Random::new(32);
     let mut seen = Seen::default();
-    let good = Path::of(3, 77, &mut random).sealed();
+    let good = Path::leading(3, 77, &mut random).sealed();
     let lengths = (0..=4 * BLOCK + 3).chain([5 * BLOCK, 65_536, 256 * BLOCK, 65_537 * BLOCK]);
     for len in lengths {
         for which in 0..3 {
@@ -261,9 +255,8 @@ fn every_length() -> Outcome {
                 2 if len < 400 => request.out_len = len,
                 _ => continue,
             }
-            if len % 3 == 0 {
-                request.damage(&mut random);
-            }
+            judge(&request, &mut seen, &mut random)?;
+            request.damage(&mut random);
             judge(&request, &mut seen, &mut random)?;
         }
     }
@@ -271,8 +264,11 @@ fn every_length() -> Outcome {
 }
 
 pub fn checks(runner: &mut Runner) {
-    runner.check("lookup: tables of 0 to 4,096 files as written, each file and the numbers beside it", written_tables);
-    runner.check("lookup: 10,500 paths with written blocks at wrong places", wrong_blocks);
+    runner.check(
+        "lookup: tables of 16 sizes from 0 to 4,096 files as written, every file and both numbers beside it",
+        written_tables,
+    );
+    runner.check("lookup: 25,070 paths with written blocks at wrong places, none of them the right path", wrong_blocks);
     runner.check("lookup: 300,000 paths made by hand, forged under fitting hashes, damaged", random_paths);
     runner.check("lookup: every byte of every block changed, before and after hashing", every_byte);
     runner.check("lookup: every kind and every number of used slots, at every place", every_kind_and_use);

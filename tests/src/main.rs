@@ -17,6 +17,7 @@ mod runner;
 mod runs;
 mod server;
 mod sha256;
+mod tables;
 
 fn main() -> std::process::ExitCode {
     let mut runner = runner::Runner::new();

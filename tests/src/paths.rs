@@ -152,6 +152,16 @@ impl Path {
         Path { number, blocks }
     }
 
+    /// A path of just so many blocks.
+    pub fn leading(levels: usize, number: u64, random: &mut Random) -> Path {
+        loop {
+            let path = Path::of(levels, number, random);
+            if path.blocks.len() == levels {
+                return path;
+            }
+        }
+    }
+
     /// Faults that will stand under fitting hashes.
     pub fn forge(&mut self, random: &mut Random) {
         let depth = random.below(self.blocks.len());

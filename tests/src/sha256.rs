@@ -78,7 +78,7 @@ fn lengths_by_the_limit() -> Outcome {
     Ok(())
 }
 
-fn other_lengths_of_out() -> Outcome {
+fn lengths_of_out() -> Outcome {
     let mut random = Random::new(32);
     for out_len in (0..=100).chain([255, 256, 288, 4_128, 65_568]) {
         for len in [0, 1, 55, 64, 642, LIMIT, LIMIT + 1] {
@@ -110,9 +110,9 @@ fn sum_by_coreutils(message: &[u8]) -> Result<String, String> {
 }
 
 pub fn checks(runner: &mut Runner) {
-    runner.check("sha256: every length 0 to 300, at 16 places each", every_length_to_300);
+    runner.check("sha256: every length 0 to 300, 16 messages each", every_length_to_300);
     runner.check("sha256: 100,000 random messages of up to 65,537 bytes, at any place", random_messages);
     runner.check("sha256: 130 lengths to either side of 65,536, and far above", lengths_by_the_limit);
-    runner.check("sha256: results of another length than 32", other_lengths_of_out);
+    runner.check("sha256: results of every length 0 to 100, and of longer ones", lengths_of_out);
     runner.check("sha256: sha256sum agrees", sha256sum);
 }

@@ -8,6 +8,7 @@ use native.Mathlib.Omega.{arith}
 use lib.Dec.{leb, ltb, eqb}
 use borrow.Author.Tests.{eq-eqb, ne-eqb, le-leb, lt-leb, le-ltb, lt-ltb}
 use Rattle.layout.specs.Strings.{zeros}
+use Rattle.itable.specs.declared.Link.{Link}
 use Rattle.itable.specs.Lookup.{lastAtMost}
 use Rattle.itable.specs.Block.{kind, used, number, kindDue, usedDue, ascending, unusedZero, firstDue, wellFormed}
 
@@ -33,13 +34,13 @@ module _ (due : ℕ) (b : List ℕ) (u : ℕ) (eu : u ≡ used b) where
   unfolding usedDue
   some-used l p = rw (sym eu, le-leb u 16 l, le-leb 1 u p)
 
-  pub empty-child : u ≤ 0 → (due ≡ 0 → ⊥) → false ≡ usedDue due b
+  pub empty-child : u ≤ 0 → 0 < due → false ≡ usedDue due b
   unfolding usedDue
-  empty-child z n = rw (sym eu, le-leb u 16 (omega arith), lt-leb 1 u (omega arith), ne-eqb due 0 n)
+  empty-child z l = rw (sym eu, le-leb u 16 (omega arith), lt-leb 1 u (omega arith), ne-eqb due 0 (λ e. omega arith))
 
-  pub empty-root : u ≤ 0 → due ≡ 0 → (k : ℕ) → k ≡ kind b → eqb k 3 ≡ usedDue due b
+  pub empty-root : u ≤ 0 → due ≤ 0 → (k : ℕ) → k ≡ kind b → eqb k 3 ≡ usedDue due b
   unfolding usedDue
-  empty-root z r k ek = rw (sym eu, le-leb u 16 (omega arith), lt-leb 1 u (omega arith), eq-eqb due 0 r, sym ek)
+  empty-root z l k ek = rw (sym eu, le-leb u 16 (omega arith), lt-leb 1 u (omega arith), eq-eqb due 0 (omega arith), sym ek)
 
 module _ (due first : ℕ) (b : List ℕ) where
   pub root-first : due ≡ 0 → true ≡ firstDue due first b
@@ -50,33 +51,35 @@ module _ (due first : ℕ) (b : List ℕ) where
   unfolding firstDue
   child-first z n e = rw (ne-eqb due 0 z, e)
 
-  -- The five tests in order: the first that fails, or the last.
-  pub wrong-kind : kindDue due b ≡ false → false ≡ wellFormed due first b
+-- The five tests in order: the first that fails, or the last.
+module _ (k : Link) (b : List ℕ) where
+  pub wrong-kind : kindDue (k .due) b ≡ false → false ≡ wellFormed k b
   unfolding wellFormed
   wrong-kind e = rw e
 
-  module _ (k : kindDue due b ≡ true) where
-    pub wrong-use : usedDue due b ≡ false → false ≡ wellFormed due first b
+  module _ (d : kindDue (k .due) b ≡ true) where
+    pub wrong-use : usedDue (k .due) b ≡ false → false ≡ wellFormed k b
     unfolding wellFormed
-    wrong-use e = rw (k, e)
+    wrong-use e = rw (d, e)
 
-    module _ (u : usedDue due b ≡ true) where
-      pub not-ascending : ascending b ≡ false → false ≡ wellFormed due first b
+    module _ (u : usedDue (k .due) b ≡ true) where
+      pub not-ascending : ascending b ≡ false → false ≡ wellFormed k b
       unfolding wellFormed
-      not-ascending e = rw (k, u, e)
+      not-ascending e = rw (d, u, e)
 
       module _ (a : ascending b ≡ true) (n : ℕ) (en : n ≡ used b) where
         rest : unusedZero b ≡ zeros b (2 + 40 * n) (642 - (2 + 40 * n))
         unfolding unusedZero
         rest = let e : 642 - (2 + 40 * n) ≡ 640 - 40 * n = omega arith in rw (sym en, e)
 
-        pub not-zero : zeros b (2 + 40 * n) (642 - (2 + 40 * n)) ≡ false → false ≡ wellFormed due first b
+        pub not-zero : zeros b (2 + 40 * n) (642 - (2 + 40 * n)) ≡ false → false ≡ wellFormed k b
         unfolding wellFormed
-        not-zero e = rw (k, u, a, rest, e)
+        not-zero e = rw (d, u, a, rest, e)
 
-        pub last-test : zeros b (2 + 40 * n) (642 - (2 + 40 * n)) ≡ true → (r : Bool) → r ≡ firstDue due first b → r ≡ wellFormed due first b
+        pub last-test :
+            zeros b (2 + 40 * n) (642 - (2 + 40 * n)) ≡ true → (r : Bool) → r ≡ firstDue (k .due) (k .first) b → r ≡ wellFormed k b
         unfolding wellFormed
-        last-test e r f = rw (k, u, a, rest, e) f
+        last-test e r f = rw (d, u, a, rest, e) f
 
 -- The last of the first n numbers that is at most i, by the last of them.
 module _ (f : ℕ → ℕ) (i n : ℕ) (h : 0 < n) where

@@ -1,62 +1,132 @@
-// Blocks of an i-table: one block's bytes judged well formed at its place, and its slots searched
-// for an i-number. Each call takes any bytes; past their end stand zeros. Nothing here hashes, and
-// nothing is known of other blocks.
+// Blocks of an i-table: what stands in a block's bytes, read, and written by `fill::fill`; one block
+// judged well formed where a link leads to it; and its slots searched for an i-number. Each call takes
+// any bytes; past their end stand zeros. Nothing here hashes, and nothing is known of other blocks.
+pub mod fill;
+
 ghost use mathlib.Core.Path.{_≡_};
-ghost use Prim.Native.Nat.{_<_};
+ghost use Prim.Native.Nat.{_-_};
 ghost use lib.Dec.{eqb};
 ghost use Rattle.search.specs.Search.{find};
-ghost use Rattle.itable.specs.Block.{used as usedOf, number as numberOf, kindDue, usedDue, ascending as ascendingOf, firstDue, wellFormed};
+ghost use Rattle.itable.specs.Block.{kind as kindOf, used as usedOf, number as numberOf, value as valueOf, toChild};
+ghost use Rattle.itable.specs.Block.{kindDue, usedDue, ascending as ascendingOf, firstDue, wellFormed};
 ghost use Rattle.itable.specs.Lookup.{lastAtMost};
+use itable::Link;
+
+// The bytes of a block.
+pub const SIZE: usize = 642;
+
+// Where the kind and the number of used slots stand, and the number and the value of the first slot;
+// the next slot is SLOT bytes further.
+const KIND: usize = 0;
+
+const USED: usize = 1;
+
+const FIRST_NUMBER: usize = 2;
+
+const FIRST_VALUE: usize = 10;
+
+const SLOT: usize = 40;
+
+// The kind of a leaf; that of the highest inner block; and the number of slots.
+pub const LEAF: u8 = 3;
+
+const TOP: u8 = 5;
+
+const SLOTS: u8 = 16;
+
+// The block's kind.
+pub fn kind(b: &[u8]) -> u8
+    ensures { λ r. ⌜ r ≡ kindOf (now (b .entry)) ⌝ }
+{
+    layout::byte_at(b, KIND)
+}
+
+// The number of used slots.
+pub fn used(b: &[u8]) -> u8
+    ensures { λ r. ⌜ r ≡ usedOf (now (b .entry)) ⌝ }
+{
+    layout::byte_at(b, USED)
+}
 
 // The number in slot j.
-fn number(b: &[u8], j: usize) -> u64
-    requires { ⌜ j < 256 ⌝ }
+pub fn number(b: &[u8], j: u8) -> u64
     ensures { λ r. ⌜ r ≡ numberOf (now (b .entry)) j ⌝ }
 {
-    layout::u64_at(b, 2 + 40 * j)
+    layout::u64_at(b, FIRST_NUMBER + SLOT * (j as usize))
+}
+
+// The value in slot j.
+pub fn value(b: &[u8], j: u8) -> [u8; 32]
+    ensures { λ r. ⌜ r ≡ valueOf (now (b .entry)) j ⌝ }
+{
+    layout::bytes32(b, FIRST_VALUE + SLOT * (j as usize))
+}
+
+// The kind due below a block of this kind.
+fn kind_below(kind: u8) -> u8
+    ensures { λ r. ⌜ r ≡ kind - 1 ⌝ }
+{
+    if kind == 0 {
+        return 0;
+    }
+    kind - 1
+}
+
+// What leads from the block to the child in slot j.
+pub fn child(b: &[u8], j: u8) -> Link
+    ensures { λ r. ⌜ r ≡ toChild (now (b .entry)) j ⌝ }
+{
+    Link {
+        due: kind_below(kind(b)),
+        first: number(b, j),
+        hash: value(b, j),
+    }
 }
 
 // Whether the block is of a kind that may stand at its place; `due` is 0 for the root.
 fn kind_due(due: u8, b: &[u8]) -> bool
     ensures { λ r. ⌜ r ≡ kindDue due (now (b .entry)) ⌝ }
 {
-    let kind = layout::byte_at(b, 0);
+    let kind = kind(b);
     if due != 0 {
         return kind == due;
     }
-    if kind < 3 {
+    if kind < LEAF {
         return false;
     }
-    kind <= 5
+    kind <= TOP
 }
 
 // Whether the block uses as many slots as one at its place may.
 fn used_due(due: u8, b: &[u8]) -> bool
     ensures { λ r. ⌜ r ≡ usedDue due (now (b .entry)) ⌝ }
 {
-    let used = layout::byte_at(b, 1);
-    if 16 < used {
+    let used = used(b);
+    if SLOTS < used {
         return false;
     }
     if 0 < used {
         return true;
     }
-    if due != 0 {
+    if 0 < due {
         return false;
     }
-    layout::byte_at(b, 0) == 3
+    kind(b) == LEAF
 }
 
 // Whether the numbers in the used slots strictly ascend.
 fn ascending(b: &[u8]) -> bool
     ensures { λ r. ⌜ r ≡ ascendingOf (now (b .entry)) ⌝ }
 {
-    let used = layout::byte_at(b, 1) as usize;
+    let used = used(b);
+    let mut last = number(b, 0);
     let mut j = 0;
     while j + 1 < used {
-        if number(b, j + 1) <= number(b, j) {
+        let next = number(b, j + 1);
+        if next <= last {
             return false;
         }
+        last = next;
         j += 1;
     }
     true
@@ -72,32 +142,30 @@ fn first_due(due: u8, first: u64, b: &[u8]) -> bool
     number(b, 0) == first
 }
 
-// Whether the block is well formed at its place: `due` is the kind due there, 0 for the root, and
-// `first` the number in the slot that led there.
-pub fn well_formed(due: u8, first: u64, b: &[u8]) -> bool
-    ensures { λ r. ⌜ r ≡ wellFormed due first (now (b .entry)) ⌝ }
+// Whether the block is well formed where the link leads to it.
+pub fn well_formed(link: Link, b: &[u8]) -> bool
+    ensures { λ r. ⌜ r ≡ wellFormed link (now (b .entry)) ⌝ }
 {
-    let used = layout::byte_at(b, 1) as usize;
-    if !kind_due(due, b) {
+    if !kind_due(link.due, b) {
         return false;
     }
-    if !used_due(due, b) {
+    if !used_due(link.due, b) {
         return false;
     }
     if !ascending(b) {
         return false;
     }
-    if !layout::zero_between(b, 2 + 40 * used, 642) {
+    if !layout::zero_between(b, FIRST_NUMBER + SLOT * (used(b) as usize), SIZE) {
         return false;
     }
-    first_due(due, first, b)
+    first_due(link.due, link.first, b)
 }
 
 // The first used slot whose number is i; the number of used slots if there is none.
-pub fn slot_of(b: &[u8], i: u64) -> usize
+pub fn slot_of(b: &[u8], i: u64) -> u8
     ensures { λ r. ⌜ r ≡ find (λ j. eqb (numberOf (now (b .entry)) j) i) 0 (usedOf (now (b .entry))) ⌝ }
 {
-    let used = layout::byte_at(b, 1) as usize;
+    let used = used(b);
     let mut j = 0;
     while j < used {
         if number(b, j) == i {
@@ -109,10 +177,10 @@ pub fn slot_of(b: &[u8], i: u64) -> usize
 }
 
 // One more than the last used slot whose number is at most i; 0 if there is none.
-pub fn last_at_most(b: &[u8], i: u64) -> usize
+pub fn last_at_most(b: &[u8], i: u64) -> u8
     ensures { λ r. ⌜ r ≡ lastAtMost (numberOf (now (b .entry))) i (usedOf (now (b .entry))) ⌝ }
 {
-    let mut n = layout::byte_at(b, 1) as usize;
+    let mut n = used(b);
     while 0 < n {
         if number(b, n - 1) <= i {
             return n;

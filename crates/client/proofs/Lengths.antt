@@ -5,7 +5,7 @@ use Rattle.refusal.proofs.Means.{Stage, Either, Unless, and-then}
 use Rattle.protocol.specs.Check.{sizeSteps}
 use Rattle.protocol.specs.History.{Call}
 use Rattle.protocol.specs.Meaning.{Users, Sizes}
-use Rattle.protocol.proofs.Meaning.{users-stage, sizes-stage}
+use Rattle.protocol.proofs.CheckMeans.{users-stage, sizes-stage}
 
 module _ (N u : ℕ) (mem list marks handle : List ℕ) (room : ℕ) where
   abbrev pub call : Call

@@ -1,99 +1,105 @@
--- The tests of an inode and of a file's block, each by cases: what they say where one fails, the ones before it having passed.
+-- The tests of an inode, of an index and of a file's block, each by cases: what they say where one fails, the ones before it having passed. What is
+-- about hashes is over their place and number.
 use Prim.Native.Nat.{ℕ, _+_, _-_, _*_, _≤_, _<_}
 use mathlib.Core.Bool.{Bool, true, false, _&&_}
-use mathlib.Core.List.{List}
+use mathlib.Core.List.{List, [], _∷_}
 use mathlib.Core.Path.{_≡_, sym, _∙_}
 use native.Mathlib.Omega.{arith}
+use lib.Dec.{eqb}
 use lib.ListN.{length, getD, take, drop}
-use borrow.Author.Tests.{eq-eqb, ne-eqb, le-leb, lt-leb, lt-ltb, le-ltb}
+use borrow.Author.Tests.{eq-eqb, ne-eqb, lt-ltb, le-ltb}
 use Rattle.layout.specs.Strings.{same, zeros}
 use Rattle.refusal.specs.Answer.{accepted, refused}
-use Rattle.refusal.specs.Order.{inOrder, tried}
+use Rattle.refusal.specs.Order.{Step, unless, inOrder, tried}
+use Rattle.refusal.specs.Refusal.{refusal, said}
+use Rattle.refusal.specs.declared.Check.{Check}
+use Rattle.refusal.specs.declared.Check.the-variants.{Passed, Refused}
+use Rattle.refusal.specs.declared.Refusal.{Refusal}
+use Rattle.refusal.proofs.Means.{in-append}
+use Rattle.refusal.proofs.Stage.{stage-passed, stage-refused}
 use Rattle.sha256.specs.Sha256.{sha256}
 use Rattle.sha256.specs.Hash.{isHash}
 use Rattle.sha256.proofs.Laws.{is-hash}
-use Rattle.itable.specs.Inode.{fileBlocks, blockLength, hashAt, restZero, holds, fileLength, wellFormed, inodeSteps, blockSteps}
+use Rattle.itable.specs.Inode.{fileBlocks, hashAt, restZero, holds, fileLength, wellFormed, inodeSteps, indexSteps}
+use Rattle.inode.specs.Internal.Named.{namedSteps}
 
--- The hashes, by the file's length.
-module _ (b : List ℕ) (at n len : ℕ) where
-  pub too-long : 8192 * n < len → false ≡ (holds n len && restZero b at n (fileBlocks len))
-  unfolding holds
-  too-long h = rw (lt-leb len (8192 * n) h)
+-- The form of an inode of kind κ for files of up to `most` blocks, of which n hashes stand from a place on, by its kind as it was read.
+module _ (b : List ℕ) (κ most at n x : ℕ) (ex : x ≡ getD b 0 0) where
+  abbrev formed : Bool
+  formed = eqb (getD b 0 0) κ && (holds most (fileLength b) && restZero b at n (fileBlocks (fileLength b)))
 
-  pub rest-tested :
-      len ≤ 8192 * n → (m : ℕ) → m ≡ fileBlocks len → (r : Bool) → r ≡ zeros b (at + 32 * m) (at + 32 * n - (at + 32 * m)) →
-      r ≡ (holds n len && restZero b at n (fileBlocks len))
-  unfolding holds restZero
-  rest-tested h m em r e =
-      let d : at + 32 * n - (at + 32 * m) ≡ 32 * (n - m) = omega arith in rw (le-leb len (8192 * n) h, sym em, sym d) e
+  pub other-kind : (x ≡ κ → ⊥) → false ≡ formed
+  other-kind h = rw (sym ex, ne-eqb x κ h)
 
-module _ (inode : List ℕ) where
-  pub not-inode : (x : ℕ) → x ≡ getD inode 0 0 → (x ≡ 6 → ⊥) → false ≡ wellFormed inode
-  unfolding wellFormed
-  not-inode x e h = rw (sym e, ne-eqb x 6 h)
+  module _ (h : x ≡ κ) (len : ℕ) (el : len ≡ fileLength b) where
+    pub too-long : holds most len ≡ false → false ≡ formed
+    too-long f = rw (sym ex, eq-eqb x κ h, sym el, f)
 
-  pub is-inode :
-      (x : ℕ) → x ≡ getD inode 0 0 → x ≡ 6 → (len : ℕ) → len ≡ fileLength inode → (r : Bool) →
-      r ≡ (holds 16 len && restZero inode 5 16 (fileBlocks len)) → r ≡ wellFormed inode
-  unfolding wellFormed
-  is-inode x e h len el r er = rw (sym e, eq-eqb x 6 h, sym el) er
+    pub is-inode : holds most len ≡ true → (m : ℕ) → m ≡ fileBlocks len → (r : Bool) → r ≡ restZero b at n m → r ≡ formed
+    is-inode f m em r e = rw (sym ex, eq-eqb x κ h, sym el, f, sym em) e
+
+-- The hashes from a place on.
+module _ (b : List ℕ) (at : ℕ) where
+  pub rest-tested : (n m : ℕ) (r : Bool) → r ≡ zeros b (at + 32 * m) (at + 32 * n - (at + 32 * m)) → r ≡ restZero b at n m
+  unfolding restZero
+  rest-tested n m r e = let d : at + 32 * n - (at + 32 * m) ≡ 32 * (n - m) = omega arith in rw (sym d) e
+
+  pub hash-lent : (k : ℕ) → take (at + 32 * k + 32 - (at + 32 * k)) (drop (at + 32 * k) b) ≡ hashAt b at k
+  hash-lent k = let e : at + 32 * k + 32 - (at + 32 * k) ≡ 32 = omega arith in rw e
+
+-- The tests of bytes that a hash names.
+module _ (size : ℕ) (hash : List ℕ) (place : ℕ) (b : List ℕ) where
+  pub other-size : (length b ≡ size → ⊥) → refused 2 place 0 ≡ tried (namedSteps size hash place b)
+  unfolding namedSteps inOrder
+  other-size h = rw (ne-eqb (length b) size h)
+
+  module _ (l : length b ≡ size) (few : size ≤ 65536) where
+    hashed : same (sha256 b) hash ≡ isHash b hash
+    hashed = sym (is-hash b hash (omega arith))
+
+    pub other-hash : isHash b hash ≡ false → refused 8 place 0 ≡ tried (namedSteps size hash place b)
+    unfolding namedSteps inOrder
+    other-hash h = rw (eq-eqb (length b) size l, hashed, h)
+
+    pub is-named : isHash b hash ≡ true → accepted tt ≡ tried (namedSteps size hash place b)
+    unfolding namedSteps inOrder
+    is-named h = rw (eq-eqb (length b) size l, hashed, h)
 
 -- The tests of the inode.
 module _ (handle inode : List ℕ) where
+  abbrev form : List Step
+  form = unless (wellFormed inode) 3 0 0 ∷ []
+
   pub wrong-handle : (length handle ≡ 32 → ⊥) → refused 2 0 0 ≡ tried (inodeSteps handle inode)
   unfolding inodeSteps inOrder
   wrong-handle h = rw (ne-eqb (length handle) 32 h)
 
-  module _ (lh : length handle ≡ 32) where
-    pub wrong-size : (length inode ≡ 517 → ⊥) → refused 2 0 0 ≡ tried (inodeSteps handle inode)
-    unfolding inodeSteps inOrder
-    wrong-size h = rw (eq-eqb (length handle) 32 lh, ne-eqb (length inode) 517 h)
+  module _ (lh : length handle ≡ 32) (c : Check) (e : said c ≡ tried (namedSteps 517 handle 0 inode)) where
+    split : tried (inodeSteps handle inode) ≡ inOrder (namedSteps 517 handle 0 inode) (tried form)
+    unfolding inodeSteps namedSteps inOrder
+    split = rw (eq-eqb (length handle) 32 lh) (in-append (namedSteps 517 handle 0 inode) form (accepted tt))
 
-    module _ (li : length inode ≡ 517) where
-      hashed : same (sha256 inode) handle ≡ isHash inode handle
-      hashed = sym (is-hash inode handle (omega arith))
+    pub inode-not-named : {r : Refusal} → c ≡ Refused r → refusal r ≡ tried (inodeSteps handle inode)
+    inode-not-named p = sym (split ∙ stage-refused (namedSteps 517 handle 0 inode) c e (tried form) p)
 
-      pub wrong-hash : isHash inode handle ≡ false → refused 8 0 0 ≡ tried (inodeSteps handle inode)
-      unfolding inodeSteps inOrder
-      wrong-hash h = rw (eq-eqb (length handle) 32 lh, eq-eqb (length inode) 517 li, hashed, h)
+    module _ (p : c ≡ Passed) where
+      goes-on : tried (inodeSteps handle inode) ≡ tried form
+      goes-on = split ∙ stage-passed (namedSteps 517 handle 0 inode) c e (tried form) p
 
-      module _ (s : isHash inode handle ≡ true) where
-        pub malformed : wellFormed inode ≡ false → refused 3 0 0 ≡ tried (inodeSteps handle inode)
-        unfolding inodeSteps inOrder
-        malformed h = rw (eq-eqb (length handle) 32 lh, eq-eqb (length inode) 517 li, hashed, s, h)
+      pub malformed : wellFormed inode ≡ false → refused 3 0 0 ≡ tried (inodeSteps handle inode)
+      unfolding inOrder
+      malformed h = rw (goes-on, h)
 
-        pub inode-passes : wellFormed inode ≡ true → accepted tt ≡ tried (inodeSteps handle inode)
-        unfolding inodeSteps inOrder
-        inode-passes h = rw (eq-eqb (length handle) 32 lh, eq-eqb (length inode) 517 li, hashed, s, h)
+      pub inode-passes : wellFormed inode ≡ true → accepted tt ≡ tried (inodeSteps handle inode)
+      unfolding inOrder
+      inode-passes h = rw (goes-on, h)
 
--- The tests of the block.
-module _ (inode : List ℕ) (k : ℕ) (block : List ℕ) (len : ℕ) (el : len ≡ fileLength inode) (m : ℕ) (em : m ≡ fileBlocks len) where
-  pub no-block : m ≤ k → refused 10 0 0 ≡ tried (blockSteps inode k block)
-  unfolding blockSteps inOrder
-  no-block h = rw (← el, ← em, le-ltb k m h)
+-- The test of the index.
+module _ (len k m : ℕ) (em : m ≡ fileBlocks len) where
+  pub no-block : m ≤ k → refused 10 0 0 ≡ tried (indexSteps len k)
+  unfolding indexSteps inOrder
+  no-block h = rw (← em, le-ltb k m h)
 
-  module _ (h : k < m) (z : ℕ) (ez : (z ≡ blockLength len k) × (z ≤ 8192)) where
-    pub wrong-length : (length block ≡ z → ⊥) → refused 2 1 0 ≡ tried (blockSteps inode k block)
-    unfolding blockSteps inOrder
-    wrong-length n = rw (← el, ← em, ← ez .0, lt-ltb k m h, ne-eqb (length block) z n)
-
-    module _ (lb : length block ≡ z) where
-      -- The hash is lent as the part of the inode from its place on.
-      lent : same (sha256 block) (hashAt inode 5 k) ≡ isHash block (take (5 + 32 * k + 32 - (5 + 32 * k)) (drop (5 + 32 * k) inode))
-      lent = let e : 5 + 32 * k + 32 - (5 + 32 * k) ≡ 32 = omega arith in rw e (sym (is-hash block (hashAt inode 5 k) (omega arith)))
-
-      pub wrong-block :
-          isHash block (take (5 + 32 * k + 32 - (5 + 32 * k)) (drop (5 + 32 * k) inode)) ≡ false →
-          refused 8 1 0 ≡ tried (blockSteps inode k block)
-      unfolding blockSteps inOrder
-      wrong-block s =
-          let t : same (sha256 block) (hashAt inode 5 k) ≡ false = lent ∙ s in
-          rw (← el, ← em, ← ez .0, lt-ltb k m h, eq-eqb (length block) z lb, t)
-
-      pub block-passes :
-          isHash block (take (5 + 32 * k + 32 - (5 + 32 * k)) (drop (5 + 32 * k) inode)) ≡ true →
-          accepted tt ≡ tried (blockSteps inode k block)
-      unfolding blockSteps inOrder
-      block-passes s =
-          let t : same (sha256 block) (hashAt inode 5 k) ≡ true = lent ∙ s in
-          rw (← el, ← em, ← ez .0, lt-ltb k m h, eq-eqb (length block) z lb, t)
+  pub index-passes : k < m → accepted tt ≡ tried (indexSteps len k)
+  unfolding indexSteps inOrder
+  index-passes h = rw (← em, lt-ltb k m h)

@@ -5,12 +5,29 @@ use refusal::Check;
 use refusal::Refusal;
 ghost use mathlib.Core.Path.{_≡_};
 ghost use Prim.Native.Nat.{_+_, _*_, _≤_, _<_};
-ghost use mathlib.Core.Bool.{_&&_};
 ghost use lib.ListN.{length};
 ghost use Rattle.refusal.specs.Refusal.{said};
 ghost use Rattle.refusal.specs.Order.{tried};
-ghost use Rattle.itable.specs.Inode.{fileBlocks, blockLength, restZero, holds, fileLength, wellFormed, inodeSteps, blockSteps, blockCheck};
+ghost use Rattle.itable.specs.Inode.{fileBlocks, blockLength, restZero, holds as holdsOf, fileLength, wellFormed};
+ghost use Rattle.itable.specs.Inode.{inodeSteps, indexSteps, blockSteps, blockCheck};
 ghost use Rattle.inode.specs.Spanned.{answerOf};
+ghost use Rattle.inode.specs.Internal.Named.{namedSteps};
+
+// The bytes of a hash, and of a file's block that is not the last.
+const HASH: usize = 32;
+
+const BLOCK: usize = 8192;
+
+// An inode's bytes, and its kind; where the file's length and the first hash stand; how many hashes.
+const SIZE: usize = 517;
+
+const KIND: u8 = 6;
+
+const LENGTH: usize = 1;
+
+const HASHES: usize = 5;
+
+const COUNT: usize = 16;
 
 // The file offset and the length of an accepted block, or why it is refused.
 pub enum Spanned {
@@ -23,7 +40,7 @@ fn file_blocks(len: usize) -> usize
     requires { ⌜ len < 4294967296 ⌝ }
     ensures { λ r. ⌜ r ≡ fileBlocks len ⌝ }
 {
-    (len + 8191) / 8192
+    (len + (BLOCK - 1)) / BLOCK
 }
 
 // The length of block k of a file of this length.
@@ -31,44 +48,71 @@ fn block_length(len: usize, k: usize) -> usize
     requires { ⌜ 8192 * k ≤ len ⌝ }
     ensures { λ r. ⌜ (r ≡ blockLength len k) × (r ≤ 8192) ⌝ }
 {
-    let rest = len - 8192 * k;
-    if rest < 8192 { rest } else { 8192 }
+    let rest = len - BLOCK * k;
+    if rest < BLOCK { rest } else { BLOCK }
 }
 
-// Whether n hashes, which stand from a place on, can name the blocks of a file of this length, and
-// those beyond its last block are zero.
-fn hashes_fit(b: &[u8], at: usize, n: usize, len: usize) -> bool
-    requires { ⌜ (at ≤ 65536) × (n ≤ 65536) × (len < 4294967296) ⌝ }
-    ensures { λ r. ⌜ r ≡ (holds n len && restZero (now (b .entry)) at n (fileBlocks len)) ⌝ }
+// Whether n hashes can name the blocks of a file of this length.
+fn holds(n: usize, len: usize) -> bool
+    requires { ⌜ n ≤ 65536 ⌝ }
+    ensures { λ r. ⌜ r ≡ holdsOf n len ⌝ }
 {
-    if 8192 * n < len {
-        return false;
-    }
-    layout::zero_between(b, at + 32 * file_blocks(len), at + 32 * n)
+    len <= BLOCK * n
+}
+
+// Whether of the n hashes that stand from a place on those behind the first m are zero.
+fn rest_zero(b: &[u8], at: usize, n: usize, m: usize) -> bool
+    requires { ⌜ (at ≤ 65536) × (n ≤ 65536) × (m ≤ 1048576) ⌝ }
+    ensures { λ r. ⌜ r ≡ restZero (now (b .entry)) at n m ⌝ }
+{
+    layout::zero_between(b, at + HASH * m, at + HASH * n)
+}
+
+// The length of the file.
+fn file_length(inode: &[u8]) -> usize
+    ensures { λ r. ⌜ (r ≡ fileLength (now (inode .entry))) × (r < 4294967296) ⌝ }
+{
+    layout::u32_at(inode, LENGTH) as usize
 }
 
 // Whether an inode is well formed.
 fn well_formed(inode: &[u8]) -> bool
     ensures { λ r. ⌜ r ≡ wellFormed (now (inode .entry)) ⌝ }
 {
-    if layout::byte_at(inode, 0) != 6 {
+    if layout::byte_at(inode, 0) != KIND {
         return false;
     }
-    hashes_fit(inode, 5, 16, layout::u32_at(inode, 1) as usize)
+    let len = file_length(inode);
+    if !holds(COUNT, len) {
+        return false;
+    }
+    rest_zero(inode, HASHES, COUNT, file_blocks(len))
+}
+
+// The tests of bytes that a hash names, in their order: their size, then their hash.
+fn named(b: &[u8], size: usize, hash: &[u8], place: usize) -> Check
+    requires { ⌜ size ≤ 65536 ⌝ }
+    ensures { λ r. ⌜ said r ≡ tried (namedSteps size (now (hash .entry)) place (now (b .entry))) ⌝ }
+{
+    if b.len() != size {
+        return Check::Refused(Refusal::Length(place));
+    }
+    if !sha256::is_hash(b, hash) {
+        return Check::Refused(Refusal::WrongHash(place));
+    }
+    Check::Passed
 }
 
 // The tests of the inode, in their order.
 fn inode_check(handle: &[u8], inode: &[u8]) -> Check
     ensures { λ r. ⌜ said r ≡ tried (inodeSteps (now (handle .entry)) (now (inode .entry))) ⌝ }
 {
-    if handle.len() != 32 {
+    if handle.len() != HASH {
         return Check::Refused(Refusal::Length(0));
     }
-    if inode.len() != 517 {
-        return Check::Refused(Refusal::Length(0));
-    }
-    if !sha256::is_hash(inode, handle) {
-        return Check::Refused(Refusal::WrongHash(0));
+    let c = named(inode, SIZE, handle, 0);
+    if let Check::Refused(r) = c {
+        return Check::Refused(r);
     }
     if !well_formed(inode) {
         return Check::Refused(Refusal::Malformed(0));
@@ -76,23 +120,23 @@ fn inode_check(handle: &[u8], inode: &[u8]) -> Check
     Check::Passed
 }
 
-// The tests of block k, in their order, under an inode whose length is in its bounds.
-fn file_block_check(inode: &[u8], k: usize, block: &[u8]) -> Check
-    requires { ⌜ (length (now inode) ≡ 517) × (fileLength (now inode) ≤ 131072) ⌝ }
-    ensures { λ r. ⌜ said r ≡ tried (blockSteps (now (inode .entry)) k (now (block .entry))) ⌝ }
+// The test of the index k, by the file's length.
+fn index_check(len: usize, k: usize) -> Check
+    requires { ⌜ len < 4294967296 ⌝ }
+    ensures { λ r. ⌜ said r ≡ tried (indexSteps len k) ⌝ }
 {
-    let len = layout::u32_at(inode, 1) as usize;
     if file_blocks(len) <= k {
         return Check::Refused(Refusal::NoBlock);
     }
-    if block.len() != block_length(len, k) {
-        return Check::Refused(Refusal::Length(1));
-    }
-    let from = 5 + 32 * k;
-    if !sha256::is_hash(block, &inode[from..from + 32]) {
-        return Check::Refused(Refusal::WrongHash(1));
-    }
     Check::Passed
+}
+
+// The tests of block k, in their order, under the hash that names it.
+fn file_block_check(len: usize, k: usize, hash: &[u8], block: &[u8]) -> Check
+    requires { ⌜ 8192 * k ≤ len ⌝ }
+    ensures { λ r. ⌜ said r ≡ tried (blockSteps len k (now (hash .entry)) (now (block .entry))) ⌝ }
+{
+    named(block, block_length(len, k), hash, 1)
 }
 
 // Checks a file's inode, which has the file handle for its hash, and block k of the file. Gives the
@@ -104,10 +148,16 @@ pub fn block_check(handle: &[u8], inode: &[u8], k: u32, block: &[u8]) -> Spanned
     if let Check::Refused(r) = c {
         return Spanned::Refused(r);
     }
+    let len = file_length(inode);
     let i = k as usize;
-    let d = file_block_check(inode, i, block);
+    let d = index_check(len, i);
     if let Check::Refused(r) = d {
         return Spanned::Refused(r);
     }
-    Spanned::Span(8192 * i, block.len())
+    let at = HASHES + HASH * i;
+    let e = file_block_check(len, i, &inode[at..at + HASH], block);
+    if let Check::Refused(r) = e {
+        return Spanned::Refused(r);
+    }
+    Spanned::Span(BLOCK * i, block.len())
 }

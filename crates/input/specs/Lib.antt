@@ -1,3 +1,4 @@
 -- In reading order.
 pub mod Form
 pub mod Report
+pub mod UsersRefused

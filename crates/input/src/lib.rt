@@ -112,7 +112,10 @@ fn tell(users: u8, user: u8, answer: Check, new: &[u8]) -> Report
 fn ask(input: &[u8], start: usize, list: &[u8], marks: &[u8]) -> Report
     requires { ⌜ 35 ≤ start ⌝ }
     requires { ⌜ start ≤ length (now input) ⌝ }
-    ensures { λ r. ⌜ Reports (answered (usersOf (now (input .entry))) (userOf (now (input .entry))) (take (start - 35) (drop 35 (now (input .entry)))) (now (list .entry)) (now (marks .entry)) (handleOf (now (input .entry)))) (usersOf (now (input .entry))) (userOf (now (input .entry))) r ⌝ }
+    ensures { λ r. ⌜ Reports
+        (answered (usersOf (now (input .entry))) (userOf (now (input .entry))) (take (start - 35) (drop 35 (now (input .entry))))
+        (now (list .entry)) (now (marks .entry)) (handleOf (now (input .entry))))
+        (usersOf (now (input .entry))) (userOf (now (input .entry))) r ⌝ }
 {
     let users = input[0];
     let user = input[1];

@@ -4,13 +4,24 @@ use mathlib.Core.List.{List, _++_, append-assoc}
 use mathlib.Core.Path.{_≡_, refl, _∙_}
 use native.Mathlib.Nat.{sub-zero, add-zero}
 use native.Mathlib.Omega.{arith}
-use lib.ListN.{length, drop, replicate, length-append, length-replicate}
+use lib.ListN.{length, take, drop, replicate, length-append, length-replicate}
 use lib.Seq.{drop-drop, drop-at, take-at}
 use Rattle.layout.specs.Bytes.{bytes8}
+use Rattle.layout.proofs.Values.{values-part}
 use Rattle.layout.proofs.Eight.{eight-bytes8, length-bytes8, eight-drop}
+use Rattle.sha256.specs.Sha256.{sha256}
 use Rattle.sha256.proofs.Laws.{sha256-length}
 use Rattle.itable.specs.Block.{kind, used, number, value}
+use Rattle.itable.specs.declared.Link.{Link}
 use Rattle.itable.specs.Table.{Level, usedIn, slots, block, above}
+
+-- The value of a slot within the bytes is the 32 bytes there.
+value-part : (b : List ℕ) (j : ℕ) → 42 + 40 * j ≤ length b → value b j ≡ take 32 (drop (10 + 40 * j) b)
+value-part b j h = values-part b (10 + 40 * j) 32 (omega arith)
+
+-- What leads to block k of kind κ over L, where it is not the root.
+abbrev pub toBlock : ℕ → Level → ℕ → Link
+toBlock κ L k = record { due = κ; first = L .number (16 * k); hash = sha256 (block κ L k) }
 
 -- Every value of a level has 32 bytes.
 abbrev pub Sized : Level → Type 0
@@ -85,6 +96,7 @@ module _ (L : Level) (s : Sized L) where
     value-block j l =
         let e : 10 + 40 * j ≡ 2 + 40 * j + 8 = omega arith in
         rw (
+          value-part (block κ L k) j (omega (arith, length-block)),
           e,
           ← (drop-drop 8 (2 + 40 * j) (block κ L k)),
           block-slot j l .1,

@@ -13,10 +13,17 @@ use Rattle.search.proofs.Bool.{bool-cases, both-true, either-true, left-true, r
 use Rattle.search.proofs.Search.{every-at, every-intro}
 use Rattle.layout.specs.Strings.{zeros}
 use Rattle.itable.specs.Block.{size, kind, used, number, kindDue, usedDue, ascending, unusedZero, firstDue, wellFormed}
+use Rattle.itable.specs.declared.Link.{Link}
 use Rattle.itable.specs.LookupMeaning.{WellFormed}
 
 -- The tests of a block's form, each as the condition that it decides.
-module _ (due first : ℕ) (b : List ℕ) where
+module _ (k : Link) (b : List ℕ) where
+  abbrev due : ℕ
+  due = k .due
+
+  abbrev first : ℕ
+  first = k .first
+
   kind-means : (kindDue due b ≡ true) ↔ ((due ≡ 0 → (3 ≤ kind b) × (kind b ≤ 5)) × ((due ≡ 0 → ⊥) → kind b ≡ due))
   unfolding kindDue
   kind-means =
@@ -92,7 +99,7 @@ module _ (due first : ℕ) (b : List ℕ) where
         (bool-cases (eqb due 0)),
   )
 
-  pub formed-means : (wellFormed due first b ≡ true) ↔ WellFormed due first b
+  pub formed-means : (wellFormed k b ≡ true) ↔ WellFormed k b
   unfolding wellFormed
   formed-means = (
     λ t.
@@ -100,11 +107,11 @@ module _ (due first : ℕ) (b : List ℕ) where
         let q = both-true (usedDue due b) (ascending b && (unusedZero b && firstDue due first b)) (p .1) in
         let r = both-true (ascending b) (unusedZero b && firstDue due first b) (q .1) in
         let s = both-true (unusedZero b) (firstDue due first b) (r .1) in
-        let k = kind-means .0 (p .0) in
+        let c = kind-means .0 (p .0) in
         let u = used-means .0 (q .0) in
         record {
-          root-kind = k .0;
-          child-kind = k .1;
+          root-kind = c .0;
+          child-kind = c .1;
           at-most = u .0;
           empty = u .1;
           ascending = ascending-means .0 (r .0);

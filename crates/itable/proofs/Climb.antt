@@ -62,7 +62,8 @@ module _ (T : Level) (i : ℕ) (t : IsTable T) (X : ℕ → Level → ℕ → Ty
 
   pub climb :
       ((p : ℕ) → Tier T i 3 T p 0 → X 3 T p) →
-      ((κ : ℕ) (L : Level) (p base next : ℕ) → Tier T i κ L p base → Tier T i (suc κ) (above κ L) ((p + 15) / 16) next → 0 < L .count → X κ L p → X (suc κ) (above κ L) ((p + 15) / 16)) →
+      ((κ : ℕ) (L : Level) (p base next : ℕ) → Tier T i κ L p base → Tier T i (suc κ) (above κ L) ((p + 15) / 16) next →
+      0 < L .count → X κ L p → X (suc κ) (above κ L) ((p + 15) / 16)) →
       Rooted T i X
   unfolding above
   climb start step =
@@ -107,7 +108,8 @@ module _ (T : Level) (i : ℕ) (t : IsTable T) (X : ℕ → Level → ℕ → Ty
               | no m ↦
                   let most : 1 < fours (T .count) = omega arith in
                   let c : Tier T i 5 (above 4 (above 3 T)) (((p + 15) / 16 + 15) / 16) (leaves (T .count) + fours (T .count)) =
-                  next-tier 4 (above 3 T) ((p + 15) / 16) (leaves (T .count)) (leaves (T .count) + fours (T .count)) b (omega arith) (fives-stand T (t .sized) more most) in
+                  next-tier 4 (above 3 T) ((p + 15) / 16) (leaves (T .count)) (leaves (T .count) + fours (T .count)) b (omega arith)
+                  (fives-stand T (t .sized) more most) in
                   let z : cover (((p + 15) / 16 + 15) / 16) ≡ 0 = omega (arith, q .within, t .few) in
                   record {
                     κ = 5;

@@ -1,5 +1,5 @@
 -- One block of a lookup: what it takes to pass it, and what follows.
-use Prim.Native.Nat.{ℕ, zero, suc, _-_}
+use Prim.Native.Nat.{ℕ, zero, suc}
 use mathlib.Core.Bool.{true}
 use mathlib.Core.List.{List, [], _∷_}
 use mathlib.Core.Path.{_≡_}
@@ -12,30 +12,31 @@ use Rattle.refusal.specs.Answer.{Answer, accepted}
 use Rattle.refusal.specs.Order.{unless, inOrder}
 use Rattle.refusal.proofs.Order.{passed, unless-passed}
 use Rattle.sha256.specs.Sha256.{sha256}
-use Rattle.itable.specs.Block.{size, kind, used, number, value, wellFormed}
+use Rattle.itable.specs.Block.{size, kind, used, number, value, toChild, wellFormed}
+use Rattle.itable.specs.declared.Link.{Link}
 use Rattle.itable.specs.Lookup.{Entry, absent, entryIn, lastAtMost, known, answerAt, consult}
 
 -- What follows along a slot of b, which is block d of the path.
 abbrev pub along : List ℕ → ℕ → ℕ → ℕ → List ℕ → ℕ → Answer Entry
-along path i left d b j = consult path i left (suc d) (kind b - 1) (number b j) (value b j)
+along path i left d b j = consult path i left (suc d) (toChild b j)
 
-module _ (path : List ℕ) (i left d due first : ℕ) (hash : List ℕ) where
+module _ (path : List ℕ) (i left d : ℕ) (k : Link) where
   -- A block of the wanted hash that is well formed at its place is passed.
   pub consulted :
-      (b : List ℕ) → part size path d ≡ b → sha256 b ≡ hash → wellFormed due first b ≡ true →
-      consult path i (suc left) d due first hash ≡ answerAt b i left (suc d) (along path i left d b)
+      (b : List ℕ) → part size path d ≡ b → sha256 b ≡ k .hash → wellFormed k b ≡ true →
+      consult path i (suc left) d k ≡ answerAt b i left (suc d) (along path i left d b)
   unfolding consult inOrder
-  consulted b here e f = rw (here, ← e, same-refl (sha256 b), f)
+  consulted b here e f = rw (here, f, ← e, same-refl (sha256 b))
 
   -- Where the lookup accepts, the block had the wanted hash, and what follows accepts.
   pub accepting :
-      {e : Entry} → consult path i (suc left) d due first hash ≡ accepted e →
-      (sha256 (part size path d) ≡ hash) × (answerAt (part size path d) i left (suc d) (along path i left d (part size path d)) ≡ accepted e)
+      {e : Entry} → consult path i (suc left) d k ≡ accepted e →
+      (sha256 (part size path d) ≡ k .hash) × (answerAt (part size path d) i left (suc d) (along path i left d (part size path d)) ≡ accepted e)
   unfolding consult
   accepting h =
       let p = passed
-      (unless (same (sha256 (part size path d)) hash) 8 d 0 ∷ unless (wellFormed due first (part size path d)) 3 d 0 ∷ []) h in
-      (same-true _ _ (unless-passed (same (sha256 (part size path d)) hash) 8 d 0 (p .0 .0)), p .1)
+      (unless (same (sha256 (part size path d)) (k .hash)) 8 d 0 ∷ unless (wellFormed k (part size path d)) 3 d 0 ∷ []) h in
+      (same-true _ _ (unless-passed (same (sha256 (part size path d)) (k .hash)) 8 d 0 (p .0 .0)), p .1)
 
 module _ (b : List ℕ) (i left d : ℕ) (on : ℕ → Answer Entry) where
   pub answer-leaf : kind b ≡ 3 → answerAt b i left d on ≡ known left d (entryIn (number b) (value b) (used b) i)

@@ -3,11 +3,10 @@ use Prim.Native.Nat.{ℕ, suc, _+_, _-_, _*_, _/_, _≤_, _<_}
 use mathlib.Core.List.{List}
 use mathlib.Core.Path.{_≡_, ap, _∙_}
 use native.Mathlib.Omega.{arith}
-use Rattle.sha256.specs.Sha256.{sha256}
 use Rattle.itable.specs.Block.{kind, used, number}
 use Rattle.itable.specs.Table.{Level, usedIn, block, above}
 use Rattle.itable.specs.Lookup.{absent, lastAtMost, known, answerAt, consult}
-use Rattle.itable.proofs.Block.{above-sized, number-block, value-block, kind-block}
+use Rattle.itable.proofs.Block.{toBlock, above-sized, number-block, value-block, kind-block}
 use Rattle.itable.proofs.Place.{Place, above-place}
 use Rattle.itable.proofs.Cover.{cover, slot-used, slot-cover, slot-count, slot-last}
 use Rattle.itable.proofs.Consult.{along, answer-none, answer-on}
@@ -39,7 +38,7 @@ module _ (κ : ℕ) (L : Level) (i p : ℕ) (q : Place L i p) (pos : 0 < L .coun
     pub child-leads :
         0 < p →
         answerAt parent i left (suc d) (along path i left d parent) ≡
-        consult path i left (suc d) κ (L .number (16 * cover p)) (sha256 (block κ L (cover p)))
+        consult path i left (suc d) (toBlock κ L (cover p))
     unfolding above
     child-leads l =
         let f : 0 < (p + 15) / 16 = omega arith in

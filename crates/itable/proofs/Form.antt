@@ -1,6 +1,7 @@
 -- The blocks over a level are well formed at their places.
 use Prim.Native.Nat.{ℕ, suc, _+_, _-_, _*_, _≤_, _<_}
 use mathlib.Core.Bool.{true, false, _&&_, _||_}
+use mathlib.Core.List.{List}
 use mathlib.Core.Path.{_≡_, refl, sym, ap, _∙_}
 use native.Mathlib.Omega.{arith}
 use lib.Dec.{leb, ltb, eqb}
@@ -10,9 +11,9 @@ use borrow.Author.Tests.{lt-ltb, le-leb, eq-eqb, ne-eqb}
 use Rattle.search.proofs.Search.{every-intro}
 use Rattle.search.proofs.Bool.{left-true}
 use Rattle.layout.specs.Strings.{zeros}
-use Rattle.itable.specs.Block.{number, kindDue, usedDue, ascending, unusedZero, firstDue, wellFormed}
+use Rattle.itable.specs.Block.{number, toRoot, kindDue, usedDue, ascending, unusedZero, firstDue, wellFormed}
 use Rattle.itable.specs.Table.{Level, usedIn, slots, block}
-use Rattle.itable.proofs.Block.{Sized, block-from, number-block, kind-block, used-block}
+use Rattle.itable.proofs.Block.{Sized, toBlock, block-from, number-block, kind-block, used-block}
 use Rattle.itable.proofs.Place.{Ascends}
 
 module _ (L : Level) (s : Sized L) (κ k : ℕ) (h : 16 * k ≤ L .count) where
@@ -40,19 +41,22 @@ module _ (L : Level) (s : Sized L) (κ k : ℕ) (h : 16 * k ≤ L .count) where
       rw (block-from L s κ k h (usedIn (L .count) k) (omega arith), z)
       (getD-replicate {A = ℕ} (640 - 40 * usedIn (L .count) k) (x - (2 + 40 * usedIn (L .count) k)) 0 0 (omega arith))))))
 
-  enough : (due : ℕ) → usedIn (L .count) k ≤ 16 → (leb 1 (usedIn (L .count) k) || (eqb due 0 && eqb κ 3)) ≡ true → usedDue due (block κ L k) ≡ true
+  enough :
+      (due : ℕ) → usedIn (L .count) k ≤ 16 → (leb 1 (usedIn (L .count) k) || (eqb due 0 && eqb κ 3)) ≡ true →
+      usedDue due (block κ L k) ≡ true
   unfolding usedDue
   enough due l e = rw (used-block κ L k, kind-block κ L k, le-leb (usedIn (L .count) k) 16 l, e)
 
   -- At the root: of a kind that a root may have, and empty only where it is a leaf.
   pub root-form :
-      (first : ℕ) → Ascends L → 3 ≤ κ → κ ≤ 5 → (leb 1 (usedIn (L .count) k) || eqb κ 3) ≡ true → wellFormed 0 first (block κ L k) ≡ true
+      (handle : List ℕ) → Ascends L → 3 ≤ κ → κ ≤ 5 → (leb 1 (usedIn (L .count) k) || eqb κ 3) ≡ true →
+      wellFormed (toRoot handle) (block κ L k) ≡ true
   unfolding wellFormed kindDue firstDue
-  root-form first asc lo hi e =
+  root-form handle asc lo hi e =
       rw (enough 0 (omega arith) e, numbers-ascend asc, rest-zero, kind-block κ L k, le-leb 3 κ lo, le-leb κ 5 hi)
 
   -- Below the slot that names its first number.
-  pub child-form : Ascends L → 0 < κ → 16 * k < L .count → wellFormed κ (L .number (16 * k)) (block κ L k) ≡ true
+  pub child-form : Ascends L → 0 < κ → 16 * k < L .count → wellFormed (toBlock κ L k) (block κ L k) ≡ true
   unfolding wellFormed kindDue firstDue
   child-form asc pos l =
       let e : 16 * k + 0 ≡ 16 * k = omega arith in

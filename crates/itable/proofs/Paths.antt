@@ -9,7 +9,7 @@ use borrow.Author.Tests.{le-leb, eq-eqb}
 use Rattle.layout.specs.Bytes.{part, parts}
 use Rattle.layout.proofs.Parts.{part-front, part-behind-all, part-length}
 use Rattle.refusal.specs.Order.{inOrder}
-use Rattle.itable.specs.Block.{size}
+use Rattle.itable.specs.Block.{size, toRoot}
 use Rattle.itable.specs.Lookup.{consult, lookup, pathSteps}
 use Rattle.itable.specs.Answers.{AllBelow, pathOf}
 
@@ -44,7 +44,7 @@ module _ (bytes : List ℕ) (n : ℕ) (h : size * n ≤ length bytes) where
 -- A handle of 32 bytes and a path of one to three blocks are consulted.
 pub lookup-consults :
     (handle : List ℕ) (i : ℕ) (path : List ℕ) (m : ℕ) → length handle ≡ 32 → length path ≡ size * m → 1 ≤ m → m ≤ 3 →
-    lookup handle i path ≡ consult path i m 0 0 0 handle
+    lookup handle i path ≡ consult path i m 0 (toRoot handle)
 unfolding lookup pathSteps inOrder
 lookup-consults handle i path m h l lo hi =
     let q : parts size path ≡ m = omega arith in

@@ -11,7 +11,6 @@ use lib.ListN.{length, length-append}
 use borrow.Author.Tests.{lt-ltb, le-ltb}
 use Rattle.layout.specs.Bytes.{part}
 use Rattle.layout.proofs.Parts.{part-front, part-behind, part-behind-all}
-use Rattle.itable.specs.Answers.{AtMostBlocks}
 use Rattle.itable.specs.Block.{size}
 use Rattle.itable.specs.Table.{Level, wide, block, above, row, leaves, fours, fives, blocks, written}
 use Rattle.itable.proofs.Block.{Sized, above-sized, length-block}
@@ -51,20 +50,6 @@ some-fives n h = rw (lt-ltb 1 (fours n) h)
 
 pub no-fives : (n : ℕ) → fours n ≤ 1 → fives n ≡ 0
 no-fives n h = rw (le-ltb 1 (fours n) h)
-
-pub at-most-blocks : AtMostBlocks
-unfolding blocks
-at-most-blocks n few =
-    elim (decLe (leaves n) 1) [
-      | yes one ↦
-          let a : fours n ≡ 0 = no-fours n one in let b : fives n ≡ 0 = no-fives n (omega arith) in omega arith
-      | no more ↦
-          let a : fours n ≡ wide (leaves n) = some-fours n (omega arith) in
-          elim (decLe (fours n) 1) [
-            | yes one ↦ let b : fives n ≡ 0 = no-fives n one in omega arith
-            | no more ↦ let b : fives n ≡ wide (fours n) = some-fives n (omega arith) in omega arith
-          ]
-    ]
 
 fours-most : (n : ℕ) → fours n ≤ wide (leaves n)
 fours-most n = go (ltb 1 (leaves n))

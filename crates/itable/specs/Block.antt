@@ -4,10 +4,11 @@ use Prim.Native.Nat.{ℕ, _+_, _-_, _*_}
 use mathlib.Core.Bool.{Bool, cond, _&&_, _||_}
 use mathlib.Core.List.{List}
 use lib.Dec.{leb, ltb, eqb}
-use lib.ListN.{getD, take, drop}
-use Rattle.layout.specs.Bytes.{eight}
+use lib.ListN.{getD}
+use Rattle.layout.specs.Bytes.{eight, bytesAt}
 use Rattle.search.specs.Search.{every}
 use Rattle.layout.specs.Strings.{zeros}
+use Rattle.itable.specs.declared.Link.{Link}
 
 abbrev pub size : ℕ
 size = 642
@@ -19,14 +20,21 @@ kind b = getD b 0 0
 abbrev pub used : List ℕ → ℕ
 used b = getD b 1 0
 
--- The number and the value in slot j.
+-- The number and the value in slot j, zeros past the end of the bytes.
 abbrev pub number : List ℕ → ℕ → ℕ
 number b j = eight b (2 + 40 * j)
 
 abbrev pub value : List ℕ → ℕ → List ℕ
-value b j = take 32 (drop (10 + 40 * j) b)
+value b j = bytesAt b (10 + 40 * j) 32
 
--- Where a block stands: `due` is the kind due there, 0 for the root, and `first` the number in the slot that led there, which the root has not.
+-- What leads to a block: the kind due there, 0 for the root, the number in the slot, and the hash. To the root leads the handle, to a child slot
+-- j of its parent.
+abbrev pub toRoot : List ℕ → Link
+toRoot handle = record { due = 0; first = 0; hash = handle }
+
+abbrev pub toChild : List ℕ → ℕ → Link
+toChild b j = record { due = kind b - 1; first = number b j; hash = value b j }
+
 -- "The root's kind may be 3, 4 or 5, each next one is one less."
 unfoldable pub kindDue : ℕ → List ℕ → Bool
 kindDue due b = cond (eqb due 0) (leb 3 (kind b) && leb (kind b) 5) (eqb (kind b) due)
@@ -46,6 +54,7 @@ unusedZero b = zeros b (2 + 40 * used b) (640 - 40 * used b)
 unfoldable pub firstDue : ℕ → ℕ → List ℕ → Bool
 firstDue due first b = eqb due 0 || eqb (number b 0) first
 
--- A block is well formed at its place.
-unfoldable pub wellFormed : ℕ → ℕ → List ℕ → Bool
-wellFormed due first b = kindDue due b && (usedDue due b && (ascending b && (unusedZero b && firstDue due first b)))
+-- A block is well formed where k leads to it.
+unfoldable pub wellFormed : Link → List ℕ → Bool
+wellFormed k b =
+    kindDue (k .due) b && (usedDue (k .due) b && (ascending b && (unusedZero b && firstDue (k .due) (k .first) b)))

@@ -45,20 +45,23 @@ pub record Span : Type 0 where
   pub offset : ℕ
   pub size : ℕ
 
--- "Order: 2 for handle and inode, 8 for the inode, 3, 10, 2 for the block's length, 8 for the block." The file block is place 1.
+-- "Order: 2 for handle and inode, 8 for the inode, 3, 10, 2 for the block's length, 8 for the block." The inode's tests; that of the index k, by
+-- the file's length; and those of the block, by the file's length and the hash that names it. The file block is place 1.
 unfoldable pub inodeSteps : List ℕ → List ℕ → List Step
 inodeSteps handle inode =
     unless (eqb (length handle) 32) 2 0 0 ∷
     unless (eqb (length inode) inodeSize) 2 0 0 ∷
     unless (same (sha256 inode) handle) 8 0 0 ∷ unless (wellFormed inode) 3 0 0 ∷ []
 
-unfoldable pub blockSteps : List ℕ → ℕ → List ℕ → List Step
-blockSteps inode k block =
-    unless (ltb k (fileBlocks (fileLength inode))) 10 0 0 ∷
-    unless (eqb (length block) (blockLength (fileLength inode) k)) 2 1 0 ∷
-    unless (same (sha256 block) (hashAt inode 5 k)) 8 1 0 ∷ []
+unfoldable pub indexSteps : ℕ → ℕ → List Step
+indexSteps len k = unless (ltb k (fileBlocks len)) 10 0 0 ∷ []
+
+unfoldable pub blockSteps : ℕ → ℕ → List ℕ → List ℕ → List Step
+blockSteps len k hash block =
+    unless (eqb (length block) (blockLength len k)) 2 1 0 ∷ unless (same (sha256 block) hash) 8 1 0 ∷ []
 
 unfoldable pub blockCheck : List ℕ → List ℕ → ℕ → List ℕ → Answer Span
 blockCheck handle inode k block =
     inOrder (inodeSteps handle inode)
-    (inOrder (blockSteps inode k block) (accepted (record { offset = 8192 * k; size = length block })))
+    (inOrder (indexSteps (fileLength inode) k)
+    (inOrder (blockSteps (fileLength inode) k (hashAt inode 5 k) block) (accepted (record { offset = 8192 * k; size = length block }))))

@@ -16,11 +16,15 @@ Sizes handle inode = (length handle ≡ 32) × (length inode ≡ inodeSize)
 abbrev pub Named : List ℕ → List ℕ → Type 0
 Named handle inode = sha256 inode ≡ handle
 
--- 3: "An inode's length is at most 131,072." "Hashes beyond the last block are zero": each byte of hash k, where the file ends before block k.
+-- "Hashes beyond the last block are zero", of the n hashes that stand from a place on: each byte of hash k, where the file ends before block k.
+abbrev pub RestZero : List ℕ → ℕ → ℕ → ℕ → Type 0
+RestZero b at n len = (k j : ℕ) → k < n → len ≤ 8192 * k → j < 32 → getD b (at + 32 * k + j) 0 ≡ 0
+
+-- 3: "An inode's length is at most 131,072." "Hashes beyond the last block are zero."
 pub record WellFormed (inode : List ℕ) : Type 0 where
   pub kind-six : getD inode 0 0 ≡ 6
   pub at-most : fileLength inode ≤ 131072
-  pub rest-zero : (k j : ℕ) → k < 16 → fileLength inode ≤ 8192 * k → j < 32 → getD inode (5 + 32 * k + j) 0 ≡ 0
+  pub rest-zero : RestZero inode 5 16 (fileLength inode)
 
 -- 10: the file goes on behind k blocks of 8,192 bytes.
 abbrev pub HasBlock : List ℕ → ℕ → Type 0

@@ -1,5 +1,5 @@
 -- The lookup of an i-number along one path of blocks, root first.
-use Prim.Native.Nat.{ℕ, zero, suc, _-_, _*_}
+use Prim.Native.Nat.{ℕ, zero, suc, _*_}
 use mathlib.Core.Bool.{cond}
 use mathlib.Core.List.{List, [], _∷_}
 use lib.Dec.{leb, ltb, eqb}
@@ -10,7 +10,8 @@ use Rattle.layout.specs.Strings.{same}
 use Rattle.refusal.specs.Answer.{Answer, accepted, refused}
 use Rattle.refusal.specs.Order.{Step, unless, inOrder}
 use Rattle.sha256.specs.Sha256.{sha256}
-use Rattle.itable.specs.Block.{size, kind, used, number, value, wellFormed}
+use Rattle.itable.specs.Block.{size, kind, used, number, value, toRoot, toChild, wellFormed}
+use Rattle.itable.specs.declared.Link.{Link}
 use Rattle.itable.specs.Table.{Level}
 
 -- What is said of an i-number: the handle of the file that has it, or that there is none.
@@ -50,16 +51,14 @@ answerAt b i left d on =
     cond (eqb (kind b) 3) (known left d (entryIn (number b) (value b) (used b) i))
     (leading (lastAtMost (number b) i (used b)) (known left d absent) on)
 
--- "For each block consulted, root first, 8, then 3": block d of the path, where the hash, the kind due (0 for the root) and the first number
--- are those that led to it, and `left` blocks are not yet consulted. "None left where one is needed: 9."
-unfoldable pub consult : List ℕ → ℕ → ℕ → ℕ → ℕ → ℕ → List ℕ → Answer Entry
-consult path i zero d due first hash = refused 9 d 0
-consult path i (suc left) d due first hash =
+-- "For each block consulted, root first, 8, then 3": block d of the path, to which k leads, where `left` blocks are not yet consulted. "None
+-- left where one is needed: 9."
+unfoldable pub consult : List ℕ → ℕ → ℕ → ℕ → Link → Answer Entry
+consult path i zero d k = refused 9 d 0
+consult path i (suc left) d k =
     inOrder
-    (unless (same (sha256 (part size path d)) hash) 8 d 0 ∷ unless (wellFormed due first (part size path d)) 3 d 0 ∷ [])
-    (answerAt (part size path d) i left (suc d)
-    (λ j.
-    consult path i left (suc d) (kind (part size path d) - 1) (number (part size path d) j) (value (part size path d) j)))
+    (unless (same (sha256 (part size path d)) (k .hash)) 8 d 0 ∷ unless (wellFormed k (part size path d)) 3 d 0 ∷ [])
+    (answerAt (part size path d) i left (suc d) (λ j. consult path i left (suc d) (toChild (part size path d) j)))
 
 -- "Order: 2 for the handle and the path": a path of 1 to 3 whole blocks.
 unfoldable pub pathSteps : List ℕ → List ℕ → List Step
@@ -69,4 +68,4 @@ pathSteps handle path =
     unless (leb 1 (parts size path)) 2 0 0 ∷ unless (leb (parts size path) 3) 2 0 0 ∷ []
 
 unfoldable pub lookup : List ℕ → ℕ → List ℕ → Answer Entry
-lookup handle i path = inOrder (pathSteps handle path) (consult path i (parts size path) 0 0 0 handle)
+lookup handle i path = inOrder (pathSteps handle path) (consult path i (parts size path) 0 (toRoot handle))

@@ -1,6 +1,6 @@
 -- What a lookup means, with no test and no search: a chain of blocks, each of the hash that led to it and well formed at its place, to one that
 -- says what the i-number has; and each way to be refused.
-use Prim.Native.Nat.{ℕ, suc, _+_, _-_, _*_, _≤_, _<_}
+use Prim.Native.Nat.{ℕ, suc, _+_, _*_, _≤_, _<_}
 use mathlib.Core.List.{List}
 use mathlib.Core.Logic.{_↔_}
 use mathlib.Core.Path.{_≡_}
@@ -8,7 +8,8 @@ use lib.ListN.{length, getD}
 use Rattle.layout.specs.Bytes.{part, parts}
 use Rattle.refusal.specs.Answer.{accepted, refused}
 use Rattle.sha256.specs.Sha256.{sha256}
-use Rattle.itable.specs.Block.{size, kind, used, number, value}
+use Rattle.itable.specs.Block.{size, kind, used, number, value, toRoot, toChild}
+use Rattle.itable.specs.declared.Link.{Link}
 use Rattle.itable.specs.Lookup.{Entry, found, absent, lookup}
 
 -- 2: a handle of 32 bytes, and "a path of 1 to 3 whole blocks".
@@ -18,35 +19,23 @@ pub record Sizes (handle path : List ℕ) : Type 0 where
   pub some : 1 ≤ parts size path
   pub few : parts size path ≤ 3
 
--- 3: a block is well formed at its place, where `due` is the kind due, 0 for the root, and `first` the number in the slot that led there.
+-- 3: a block is well formed where k leads to it: `due` is the kind due, 0 for the root, and `first` the number in the slot that led there.
 -- "The root's kind may be 3, 4 or 5, each next one is one less." "A leaf has 0 to 16 used slots, 0 only where it is the root. An inner block
 -- has 1 to 16. Slot numbers strictly ascend; unused slots are all zero." "A child's first number equals the number in the slot that led to it."
-pub record WellFormed (due first : ℕ) (b : List ℕ) : Type 0 where
-  pub root-kind : due ≡ 0 → (3 ≤ kind b) × (kind b ≤ 5)
-  pub child-kind : (due ≡ 0 → ⊥) → kind b ≡ due
+pub record WellFormed (k : Link) (b : List ℕ) : Type 0 where
+  pub root-kind : k .due ≡ 0 → (3 ≤ kind b) × (kind b ≤ 5)
+  pub child-kind : (k .due ≡ 0 → ⊥) → kind b ≡ k .due
   pub at-most : used b ≤ 16
-  pub empty : used b ≡ 0 → (due ≡ 0) × (kind b ≡ 3)
+  pub empty : used b ≡ 0 → (k .due ≡ 0) × (kind b ≡ 3)
   pub ascending : (j : ℕ) → suc j < used b → number b j < number b (suc j)
   pub unused-zero : (x : ℕ) → 2 + 40 * used b ≤ x → x < size → getD b x 0 ≡ 0
-  pub first-number : (due ≡ 0 → ⊥) → number b 0 ≡ first
-
--- What leads to a block: the kind due, the number in the slot, and the hash. To the root leads the handle, to a child slot j of its parent.
-pub record Link : Type 0 where
-  pub due : ℕ
-  pub first : ℕ
-  pub hash : List ℕ
-
-abbrev pub toRoot : List ℕ → Link
-toRoot handle = record { due = 0; first = 0; hash = handle }
-
-abbrev pub toChild : List ℕ → ℕ → Link
-toChild b j = record { due = kind b - 1; first = number b j; hash = value b j }
+  pub first-number : (k .due ≡ 0 → ⊥) → number b 0 ≡ k .first
 
 -- Block d of the path is there and passes 8, then 3.
 pub record Passes (path : List ℕ) (d : ℕ) (k : Link) : Type 0 where
   pub there : d < parts size path
   pub hashed : sha256 (part size path d) ≡ k .hash
-  pub formed : WellFormed (k .due) (k .first) (part size path d)
+  pub formed : WellFormed k (part size path d)
 
 -- "A leaf gives the handle, or absent." "If there is none (only at a root), absent."
 pub data Ends (b : List ℕ) (i : ℕ) : Entry → Type 0 where
@@ -76,7 +65,7 @@ pub data Fails (path : List ℕ) (i : ℕ) : ℕ → Link → ℕ → ℕ → Ty
   wrong-hash : {d : ℕ} {k : Link} → d < parts size path → (sha256 (part size path d) ≡ k .hash → ⊥) → Fails path i d k 8 d
   malformed :
       {d : ℕ} {k : Link} → d < parts size path → sha256 (part size path d) ≡ k .hash →
-      (WellFormed (k .due) (k .first) (part size path d) → ⊥) → Fails path i d k 3 d
+      (WellFormed k (part size path d) → ⊥) → Fails path i d k 3 d
   left-over :
       {d : ℕ} {k : Link} (e : Entry) → Passes path d k → Ends (part size path d) i e → suc d < parts size path →
       Fails path i d k 9 (suc d)
@@ -99,5 +88,5 @@ LookupMeans =
 -- "If there is none (only at a root)": where slot j of an inner block leads on to c, and c is well formed there, c has a number at most i.
 abbrev pub NoneOnlyAtRoot : Type 0
 NoneOnlyAtRoot =
-    (b c : List ℕ) (i j : ℕ) → Leads b i j → 4 ≤ kind b → WellFormed (kind b - 1) (number b j) c →
+    (b c : List ℕ) (i j : ℕ) → Leads b i j → 4 ≤ kind b → WellFormed (toChild b j) c →
     ((m : ℕ) → m < used c → i < number c m) → ⊥

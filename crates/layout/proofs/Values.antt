@@ -6,7 +6,7 @@ use native.Mathlib.Numerals.{add-one}
 use native.Mathlib.Omega.{arith}
 use lib.ListN.{length, getD, take, drop, set, replicate, length-drop, length-replicate, drop-of-length-le}
 use lib.Seq.{take-suc-set, take-length, length-take-le, getD-take, getD-drop, ext-getD}
-use Rattle.layout.specs.Bytes.{values}
+use Rattle.layout.specs.Bytes.{values, bytesAt}
 
 pub length-values : (f : ℕ → ℕ) (i k : ℕ) → length (values f i k) ≡ k
 unfolding values
@@ -28,7 +28,7 @@ values-cong f g i (suc k) h =
     ap₂ _∷_ (h i (omega arith) (omega arith)) (values-cong f g (suc i) k (λ j a b. h j (omega arith) (omega arith)))
 
 -- The n bytes from a on, one by one.
-pub values-part : (b : List ℕ) (a n : ℕ) → a + n ≤ length b → values (λ i. getD b (a + i) 0) 0 n ≡ take n (drop a b)
+pub values-part : (b : List ℕ) (a n : ℕ) → a + n ≤ length b → bytesAt b a n ≡ take n (drop a b)
 values-part b a n h =
     let m : length (take n (drop a b)) ≡ n = length-take-le n (drop a b) (simp length-drop (omega arith)) in
     ext-getD 0 _ _ (length-values _ 0 n ∙ sym m)
@@ -40,7 +40,7 @@ values-part b a n h =
 -- The same, where they are copied over n zeros.
 pub part-copied :
     (b s : List ℕ) (a n : ℕ) → a + n ≤ length b → s ≡ take n (drop a b) →
-    take (length s) s ++ drop (length s) (replicate n 0) ≡ values (λ i. getD b (a + i) 0) 0 n
+    take (length s) s ++ drop (length s) (replicate n 0) ≡ bytesAt b a n
 part-copied b s a n h e =
     let l : length s ≡ n = rw e (length-take-le n (drop a b) (simp length-drop (omega arith))) in
     let z : drop {A = ℕ} n (replicate n 0) ≡ [] = drop-of-length-le (replicate n 0) {i = n} (simp length-replicate (omega arith)) in

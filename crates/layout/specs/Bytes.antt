@@ -28,3 +28,7 @@ parts n b = length b / n
 unfoldable pub values : (ℕ → ℕ) → ℕ → ℕ → List ℕ
 values f i zero = []
 values f i (suc k) = f i ∷ values f (suc i) k
+
+-- The n bytes from a place on. Past the end of the bytes stand zeros.
+abbrev pub bytesAt : List ℕ → ℕ → ℕ → List ℕ
+bytesAt b at n = values (λ k. getD b (at + k) 0) 0 n

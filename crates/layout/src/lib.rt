@@ -6,7 +6,7 @@ ghost use mathlib.Core.Bool.{_&&_};
 ghost use Prim.Native.Nat.{_+_, _*_, _-_, _≤_};
 ghost use lib.Dec.{eqb};
 ghost use lib.ListN.{length, getD};
-ghost use Rattle.layout.specs.Bytes.{four, eight, bytes4, bytes8, values};
+ghost use Rattle.layout.specs.Bytes.{four, eight, bytes4, bytes8, bytesAt};
 ghost use Rattle.layout.specs.Strings.{same, zeros};
 
 // How many bytes there are from a place on.
@@ -105,7 +105,7 @@ pub fn u64_bytes(x: u64) -> [u8; 8]
 
 // The 32 bytes from a place on. Where all are there, they are copied at one go.
 pub fn bytes32(b: &[u8], at: usize) -> [u8; 32]
-    ensures { λ r. ⌜ r ≡ values (λ k. getD (now (b .entry)) (at + k) 0) 0 32 ⌝ }
+    ensures { λ r. ⌜ r ≡ bytesAt (now (b .entry)) at 32 ⌝ }
 {
     let mut out = [0u8; 32];
     if 32 <= rest(b, at) {

@@ -1,4 +1,4 @@
--- The answer at each way in which a lookup ends, and the place of a handle in its block.
+-- The answer at each way in which a lookup ends, with what is handed back.
 use Prim.Native.Nat.{ℕ, zero, suc, _+_, _≤_, _<_}
 use mathlib.Core.List.{List}
 use mathlib.Core.Path.{_≡_, refl, ap}
@@ -6,10 +6,13 @@ use native.Mathlib.Numerals.{add-one}
 use native.Mathlib.Omega.{arith}
 use lib.ListN.{replicate}
 use Rattle.refusal.specs.Answer.{accepted, refused}
+use Rattle.refusal.specs.Refusal.{refusal}
+use Rattle.refusal.specs.declared.Refusal.{Refusal}
+use Rattle.refusal.proofs.Numbered.{numbered}
 use Rattle.itable.specs.Block.{value}
 use Rattle.itable.specs.Lookup.{Entry, found, absent, known}
-use Rattle.lookup.specs.Looked.{Looks}
-use Rattle.lookup.specs.Step.{ending, endSlot}
+use Rattle.lookup.specs.Looked.{Looks, handed}
+use Rattle.lookup.specs.Internal.Step.{ending}
 use Rattle.lookup.specs.declared.End.{End}
 use Rattle.lookup.specs.declared.End.the-variants.{WrongHash, Malformed, Here, Nowhere}
 use Rattle.lookup.specs.declared.Looked.{Looked}
@@ -46,6 +49,6 @@ module _ {e : End} (b : List ℕ) (left d : ℕ) where
   pub nowhere-last : e ≡ Nowhere → left ≤ 0 → Looks (ending e b left d) (record { answer = Absent; handle = replicate 32 0 })
   nowhere-last q h = rw (q, none-left left (suc d) absent h) (record { answers = refl; hands = refl })
 
--- A slot that is named is one of the sixteen.
-pub here-slot : {e : End} {j : ℕ} → e ≡ Here j → endSlot e ≤ 16 → j < 16
-here-slot q l = rw q at l
+-- A refusal hands back zeros.
+pub none-handed : (r : Refusal) → replicate 32 0 ≡ handed (refusal r)
+none-handed r = rw (numbered r .3 Entry)

@@ -6,6 +6,8 @@ use lib.ListN.{length}
 use borrow.Author.Tests.{eq-eqb, ne-eqb, le-leb, lt-leb}
 use Rattle.refusal.specs.Answer.{refused}
 use Rattle.refusal.specs.Order.{inOrder}
+use Rattle.itable.specs.Block.{toRoot}
+use Rattle.itable.specs.declared.Link.{Link}
 use Rattle.itable.specs.Lookup.{consult, lookup, pathSteps}
 use Rattle.itable.proofs.Paths.{lookup-consults}
 use Rattle.lookup.specs.Looked.{Looks}
@@ -39,6 +41,6 @@ module _ (handle : List ℕ) (i : ℕ) (path : List ℕ) {r : Looked} where
           l
 
       pub some-blocks :
-          1 ≤ length path / 642 → length path / 642 ≤ 3 → Looks (consult path i (length path / 642) 0 0 0 handle) r →
-          Looks (lookup handle i path) r
-      some-blocks n m l = rw (lookup-consults handle i path (length path / 642) h (sym w) n m) l
+          1 ≤ length path / 642 → length path / 642 ≤ 3 → {k : Link} → k ≡ toRoot handle →
+          Looks (consult path i (length path / 642) 0 k) r → Looks (lookup handle i path) r
+      some-blocks n m e l = rw (lookup-consults handle i path (length path / 642) h (sym w) n m, ← e) l

@@ -1,5 +1,4 @@
 pub mod Laws
-pub mod Found
 pub mod Ends
 pub mod Along
 pub mod Lengths

@@ -1,2 +1,2 @@
 pub mod Looked
-pub mod Step
+pub mod Internal

@@ -1,13 +1,14 @@
 // The lookup of an i-number under an i-handle, along one path of blocks, root first. A block's hash
 // is checked before anything else of it is read. Nothing is remembered between calls.
 ghost use mathlib.Core.Path.{_≡_};
-ghost use Prim.Native.Nat.{_+_, _*_, _≤_};
-ghost use lib.ListN.{length, take, drop};
+ghost use Prim.Native.Nat.{_*_, _≤_};
+ghost use lib.ListN.{length};
 ghost use Rattle.refusal.specs.Refusal.{refusal};
-ghost use Rattle.itable.specs.Block.{kind};
+ghost use Rattle.itable.specs.Block.{size, kind, toRoot};
 ghost use Rattle.itable.specs.Lookup.{consult, lookup as lookupOf};
 ghost use Rattle.lookup.specs.Looked.{Looks};
-ghost use Rattle.lookup.specs.Step.{ending, endSlot, Searched, Consulted};
+ghost use Rattle.lookup.specs.Internal.Step.{ending, Searched, Consulted};
+use itable::Link;
 use refusal::Refusal;
 
 // What a lookup says: the i-number's file is there, or it is absent; or why the path says nothing.
@@ -27,27 +28,13 @@ pub struct Looked {
 enum End {
     WrongHash,
     Malformed,
-    Here(usize),
+    Here(u8),
     Nowhere,
 }
 
 enum Step {
     Ends(End),
-    Leads(usize),
-}
-
-// The 32 bytes from a place on.
-fn bytes32(b: &[u8], from: usize) -> [u8; 32]
-    requires { ⌜ from + 32 ≤ length (now b) ⌝ }
-    ensures { λ r. ⌜ r ≡ take 32 (drop from (now (b .entry))) ⌝ }
-{
-    let mut out = [0u8; 32];
-    let mut i = 0;
-    while i < 32 {
-        out[i] = b[from + i];
-        i += 1;
-    }
-    out
+    Leads(u8),
 }
 
 fn refused(r: Refusal) -> Looked
@@ -65,8 +52,7 @@ fn in_leaf(b: &[u8], number: u64) -> Step
     ensures { λ r. ⌜ Searched (now (b .entry)) number r ⌝ }
 {
     let j = block::slot_of(b, number);
-    let used = layout::byte_at(b, 1) as usize;
-    if j < used {
+    if j < block::used(b) {
         return Step::Ends(End::Here(j));
     }
     Step::Ends(End::Nowhere)
@@ -84,18 +70,19 @@ fn in_inner(b: &[u8], number: u64) -> Step
     Step::Leads(n - 1)
 }
 
-// Consults one block: its hash, then its form, then what it says of the i-number.
-fn one_block(b: &[u8], due: u8, first: u64, wanted: &[u8], number: u64) -> Step
-    requires { ⌜ length (now b) ≡ 642 ⌝ }
-    ensures { λ r. ⌜ Consulted (now (b .entry)) due first (now (wanted .entry)) number r ⌝ }
+// Consults one block, to which a link leads: its hash, then its form, then what it says of the
+// i-number.
+fn one_block(link: Link, b: &[u8], number: u64) -> Step
+    requires { ⌜ length (now b) ≡ size ⌝ }
+    ensures { λ r. ⌜ Consulted (now (b .entry)) link number r ⌝ }
 {
-    if !sha256::is_hash(b, wanted) {
+    if !sha256::is_hash(b, &link.hash) {
         return Step::Ends(End::WrongHash);
     }
-    if !block::well_formed(due, first, b) {
+    if !block::well_formed(link, b) {
         return Step::Ends(End::Malformed);
     }
-    if layout::byte_at(b, 0) == 3 {
+    if block::kind(b) == block::LEAF {
         return in_leaf(b, number);
     }
     in_inner(b, number)
@@ -103,7 +90,7 @@ fn one_block(b: &[u8], due: u8, first: u64, wanted: &[u8], number: u64) -> Step
 
 // The answer is known, or none is, at the block b, which is block d of the path; `left` more follow.
 fn ended(e: End, b: &[u8], left: usize, d: usize) -> Looked
-    requires { ⌜ (length (now b) ≡ 642) × (endSlot e ≤ 16) × (d ≤ 3) ⌝ }
+    requires { ⌜ d ≤ 3 ⌝ }
     ensures { λ r. ⌜ Looks (ending e (now (b .entry)) left d) r ⌝ }
 {
     match e {
@@ -115,7 +102,7 @@ fn ended(e: End, b: &[u8], left: usize, d: usize) -> Looked
             }
             Looked {
                 answer: Outcome::Found,
-                handle: bytes32(b, 10 + 40 * j),
+                handle: block::value(b, j),
             }
         }
         End::Nowhere => {
@@ -130,27 +117,35 @@ fn ended(e: End, b: &[u8], left: usize, d: usize) -> Looked
     }
 }
 
-// Consults the n blocks of a path, as far as they are needed.
-fn walk(handle: &[u8], number: u64, path: &[u8], n: usize) -> Looked
-    requires { ⌜ (length (now handle) ≡ 32) × (length (now path) ≡ 642 * n) × (n ≤ 3) ⌝ }
-    ensures { λ r. ⌜ Looks (consult (now (path .entry)) number n 0 0 0 (now (handle .entry))) r ⌝ }
+// What leads to the root.
+fn to_root(handle: &[u8]) -> Link
+    requires { ⌜ length (now handle) ≡ 32 ⌝ }
+    ensures { λ r. ⌜ r ≡ toRoot (now (handle .entry)) ⌝ }
 {
-    let mut wanted = bytes32(handle, 0);
-    let mut due: u8 = 0;
-    let mut first: u64 = 0;
+    Link {
+        due: 0,
+        first: 0,
+        hash: layout::bytes32(handle, 0),
+    }
+}
+
+// Consults the n blocks of a path, as far as they are needed; `root` leads to the first.
+fn walk(root: Link, number: u64, path: &[u8], n: usize) -> Looked
+    requires { ⌜ (length (now path) ≡ size * n) × (n ≤ 3) ⌝ }
+    ensures { λ r. ⌜ Looks (consult (now (path .entry)) number n 0 root) r ⌝ }
+{
+    let mut link = root;
     let mut d = 0;
     while d < n {
-        let at = 642 * d;
-        let b = &path[at..at + 642];
-        let s = one_block(b, due, first, &wanted, number);
+        let at = block::SIZE * d;
+        let b = &path[at..at + block::SIZE];
+        let s = one_block(link, b, number);
         match s {
             Step::Ends(e) => {
                 return ended(e, b, n - d - 1, d);
             }
             Step::Leads(j) => {
-                wanted = bytes32(b, 10 + 40 * j);
-                first = layout::u64_at(b, 2 + 40 * j);
-                due = b[0] - 1;
+                link = block::child(b, j);
                 d += 1;
             }
         }
@@ -166,8 +161,8 @@ pub fn lookup(handle: &[u8], number: u64, path: &[u8]) -> Looked
     if handle.len() != 32 {
         return refused(Refusal::Length(0));
     }
-    let n = path.len() / 642;
-    if 642 * n != path.len() {
+    let n = path.len() / block::SIZE;
+    if block::SIZE * n != path.len() {
         return refused(Refusal::Length(0));
     }
     if n < 1 {
@@ -176,5 +171,5 @@ pub fn lookup(handle: &[u8], number: u64, path: &[u8]) -> Looked
     if 3 < n {
         return refused(Refusal::Length(0));
     }
-    walk(handle, number, path, n)
+    walk(to_root(handle), number, path, n)
 }

@@ -13,8 +13,8 @@ use Rattle.protocol.specs.Check.{current, check}
 use Rattle.protocol.specs.History.{Call}
 use Rattle.protocol.specs.Meaning.{AtOrBefore, StrictlyBefore, newOf}
 use Rattle.protocol.proofs.Conditions.{current-means}
-use Rattle.protocol.proofs.Meaning.{check-means}
-use Rattle.protocol.proofs.New.{new-means, next-other}
+use Rattle.protocol.proofs.CheckMeans.{check-means}
+use Rattle.protocol.proofs.NewMeans.{new-means, next-other}
 
 -- User u of N, who remembers `mem`, accepts the list, and s is its next structure.
 pub record Accepts (N u : ℕ) (mem list s : List ℕ) : Type 0 where

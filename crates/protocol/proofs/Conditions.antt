@@ -1,9 +1,10 @@
 -- The tests of the client's check, each as the condition that it decides.
-use Prim.Native.Nat.{ℕ, zero, suc, _-_, _*_, _≤_, _<_}
+use Prim.Native.Nat.{ℕ, zero, suc, _+_, _-_, _*_, _≤_, _<_}
 use mathlib.Core.Bool.{Bool, true, false, not, _&&_, _||_}
 use mathlib.Core.List.{List, [], _∷_}
 use mathlib.Core.Logic.{_↔_, inl, inr, ⊎-elim}
 use mathlib.Core.Path.{_≡_, refl, sym, ap, _∙_}
+use native.Mathlib.Decide.{decLt}
 use native.Mathlib.Nat.{eq-or-lt-of-le}
 use native.Mathlib.Omega.{arith}
 use lib.Dec.{ltb, eqb}
@@ -12,6 +13,7 @@ use borrow.Author.Tests.{ltb-true, eqb-true, eqb-false, lt-ltb, le-ltb, eq-eqb, 
 use Rattle.search.specs.Search.{every, find}
 use Rattle.search.proofs.Bool.{bool-cases, both-true, either-true, left-true, right-true}
 use Rattle.search.proofs.Search.{every-at, every-intro, first-failure, find-at}
+use Rattle.layout.proofs.Bytes.{four-past}
 use Rattle.layout.proofs.Strings.{same-true, same-refl}
 use Rattle.layout.proofs.Parts.{part-length}
 use Rattle.protocol.specs.Version.{size, kind, owner, count, own, wellFormed, countsStrictlyBefore, atOrBefore, strictlyBefore}
@@ -50,6 +52,14 @@ well-formed N x =
             every-intro (λ v. eqb (count x v) 0) N (16 - N) (λ v a b. eq-eqb (count x v) 0 (w .others-zero v a (omega arith))),
           ),
     )
+
+-- The owner of a well formed structure is a user below 16: a later place has no count.
+pub owner-below : (N : ℕ) (x : List ℕ) → length x ≡ size → wellFormed N x ≡ true → owner x < 16
+owner-below N x h w =
+    elim (decLt (owner x) 16) [
+      | yes l ↦ l
+      | no g ↦ absurd (well-formed N x .0 w .own-counted (four-past x (34 + 4 * owner x) (omega arith)))
+    ]
 
 pub strictly-means : (x y : List ℕ) → (strictlyBefore x y ≡ true) ↔ StrictlyBefore x y
 unfolding countsStrictlyBefore

@@ -1,22 +1,20 @@
 -- The state after an honest turn's commit is steady again: the new structure is held and remembered, and all others held are before it.
 use Prim.Native.Nat.{ℕ, _≤_, _<_}
-use mathlib.Core.Bool.{true, cond, _||_}
+use mathlib.Core.Bool.{cond}
 use mathlib.Core.List.{List}
-use mathlib.Core.Logic.{inr}
+use mathlib.Core.Logic.{_⊎_, inl, inr}
 use mathlib.Core.Path.{_≡_, refl, sym, ap, _∙_}
 use native.Mathlib.Omega.{arith}
 use lib.Dec.{eqb}
 use borrow.Author.Tests.{eq-eqb, ne-eqb}
-use Rattle.search.proofs.Bool.{left-true, right-true}
 use Rattle.protocol.specs.declared.Server.{Server}
-use Rattle.protocol.specs.Version.{owner, count, atOrBefore}
+use Rattle.protocol.specs.Version.{owner, count}
 use Rattle.protocol.specs.Server.{held, heldOwn, replaced}
-use Rattle.protocol.proofs.Version.{before-intro, strictly-before}
+use Rattle.protocol.specs.Meaning.{AtOrBefore}
+use Rattle.protocol.specs.Steady.{Kept, Steady}
 use Rattle.protocol.proofs.Held as Held
 use Rattle.protocol.proofs.Held.{replaced-length}
-use Rattle.protocol.proofs.Listing.{Kept}
-use Rattle.protocol.proofs.Honest.{
-  Steady,
+use Rattle.protocol.proofs.HonestNext.{
   Ready,
   made-next,
   next-length,
@@ -32,7 +30,9 @@ module _ {N : ℕ} {s : Server} {memory : ℕ → List ℕ} {u : ℕ} {handle : 
   owned = omega (arith, next-owner r, r .small, r .user)
 
   -- What holds of the new structure, and of every other held before, holds of what is held now.
-  pub now-or-still : (P : ℕ → List ℕ → Type 0) → P u (made-next r) → ((v : ℕ) → (v ≡ u → ⊥) → P v (held s v)) → (v : ℕ) → P v (held (replaced s (made-next r)) v)
+  pub now-or-still :
+      (P : ℕ → List ℕ → Type 0) → P u (made-next r) → ((v : ℕ) → (v ≡ u → ⊥) → P v (held s v)) →
+      (v : ℕ) → P v (held (replaced s (made-next r)) v)
   now-or-still P new old =
       Held.now-or-still s (made-next r) (r .steady .long) (next-length r) owned
       (λ z. omega (arith, next-own r, ap (count (made-next r)) (next-owner r))) P (rw (next-owner r) new)
@@ -48,26 +48,20 @@ module _ {N : ℕ} {s : Server} {memory : ℕ → List ℕ} {u : ℕ} {handle : 
       now-or-still (λ v x. v < 16 → w < 16 → count x w ≤ heldOwn s w) (λ a b. omega (arith, next-other r w b m))
       (λ v n a b. r .steady .counted v w a b))
 
-  before-next : (v : ℕ) → v < 16 → atOrBefore (held s v) (made-next r) ≡ true
-  before-next v l = strictly-before (held s v) (made-next r) (held-before r v l)
-
   ordered-now :
       (w v : ℕ) → v < 16 → w < 16 →
-      (atOrBefore (held (replaced s (made-next r)) v) (held (replaced s (made-next r)) w) ||
-      atOrBefore (held (replaced s (made-next r)) w) (held (replaced s (made-next r)) v)) ≡
-      true
+      AtOrBefore (held (replaced s (made-next r)) v) (held (replaced s (made-next r)) w) ⊎
+      AtOrBefore (held (replaced s (made-next r)) w) (held (replaced s (made-next r)) v)
   ordered-now =
       now-or-still
       (λ w y.
       (v : ℕ) → v < 16 → w < 16 →
-      (atOrBefore (held (replaced s (made-next r)) v) y || atOrBefore y (held (replaced s (made-next r)) v)) ≡ true)
-      (now-or-still (λ v x. v < 16 → u < 16 → (atOrBefore x (made-next r) || atOrBefore (made-next r) x) ≡ true)
-      (λ a b. rw (before-intro (made-next r) (made-next r) (λ i l. omega arith)))
-      (λ v n a b. left-true (atOrBefore (held s v) (made-next r)) (atOrBefore (made-next r) (held s v)) (before-next v a)))
+      AtOrBefore (held (replaced s (made-next r)) v) y ⊎ AtOrBefore y (held (replaced s (made-next r)) v))
+      (now-or-still (λ v x. v < 16 → u < 16 → AtOrBefore x (made-next r) ⊎ AtOrBefore (made-next r) x)
+      (λ a b. inl (λ i l. omega arith)) (λ v n a b. inl (held-before r v a .0)))
       (λ w m.
-      now-or-still (λ v x. v < 16 → w < 16 → (atOrBefore x (held s w) || atOrBefore (held s w) x) ≡ true)
-      (λ a b. right-true (atOrBefore (made-next r) (held s w)) (atOrBefore (held s w) (made-next r)) (before-next w b))
-      (λ v n a b. r .steady .ordered v w a b))
+      now-or-still (λ v x. v < 16 → w < 16 → AtOrBefore x (held s w) ⊎ AtOrBefore (held s w) x)
+      (λ a b. inr (held-before r w b .0)) (λ v n a b. r .steady .ordered v w a b))
 
   pub steady-next : Steady N (replaced s (made-next r)) (λ v. cond (eqb u v) (made-next r) (memory v))
   unfolding replaced

@@ -3,7 +3,7 @@
 use Prim.Native.Nat.{ℕ, zero, suc, _+_, _-_, _*_, _≤_, _<_}
 use mathlib.Core.Bool.{Bool, true}
 use mathlib.Core.List.{List, [], _++_}
-use mathlib.Core.Logic.{_⊎_, ⊎-elim}
+use mathlib.Core.Logic.{⊎-elim}
 use mathlib.Core.Path.{_≡_, refl, sym, ap, _∙_}
 use native.Mathlib.Decide.{decLt}
 use native.Mathlib.Nat.{eq-or-lt-of-le}
@@ -16,22 +16,11 @@ use Rattle.search.specs.Search.{find}
 use Rattle.search.proofs.Bool.{not-both}
 use Rattle.search.proofs.Search.{Found, found, find-none}
 use Rattle.protocol.specs.declared.Server.{Server}
-use Rattle.protocol.specs.Version.{size, owner, wellFormed}
+use Rattle.protocol.specs.Version.{size, owner}
 use Rattle.protocol.specs.List.{records, recordAt, entry}
 use Rattle.protocol.specs.Server.{held, heldFrom}
 use Rattle.protocol.specs.Meaning.{WellPlaced}
-use Rattle.protocol.proofs.Conditions.{well-formed}
-
--- User v's own structure, well formed for N.
-pub record Proper (N v : ℕ) (x : List ℕ) : Type 0 where
-  pub whole : length x ≡ size
-  pub owned : owner x ≡ v
-  pub below : v < N
-  pub formed : wellFormed N x ≡ true
-
--- None, or user v's own.
-abbrev pub Kept : ℕ → ℕ → List ℕ → Type 0
-Kept N v x = (x ≡ []) ⊎ Proper N v x
+use Rattle.protocol.specs.Steady.{Proper, Kept}
 
 -- A record listed of one of the k users from v on.
 pub record Listed (N : ℕ) (s : Server) (v k : ℕ) (x : List ℕ) : Type 0 where
@@ -110,7 +99,7 @@ module _ (N : ℕ) (s : Server) (v k : ℕ) where
     put-front =
         record {
           whole = simp length-append (omega (arith, p .whole, l .whole));
-          few = omega (arith, one-more, l .few, p .below);
+          few = omega (arith, one-more, l .few, p .owned, p .formed .owner-below);
           each = each-more;
           ascending = ascending-more;
           place = place-more;
@@ -164,7 +153,7 @@ module _ (N : ℕ) (s : Server) (kept : (v : ℕ) → v < 16 → Kept N v (held 
 -- Each record of the list is well placed.
 pub listing-placed :
     {N : ℕ} {s : Server} {v k : ℕ} {list : List ℕ} → Listing N s v k list → (i : ℕ) → i < records list → WellPlaced N list i
-listing-placed {N} {s} {v} {k} {list} l i h = (well-formed N (recordAt list i) .0 (l .each i h .proper .formed), above i h)
+listing-placed {N} {s} {v} {k} {list} l i h = (l .each i h .proper .formed, above i h)
   where
     above : (j : ℕ) → j < records list → 0 < j → owner (recordAt list (j - 1)) < owner (recordAt list j)
     above zero m z = absurd (omega arith)

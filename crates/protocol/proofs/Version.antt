@@ -1,6 +1,6 @@
 -- Laws of version structures: a made structure reads back, and the orders by their counts.
 use Prim.Native.Nat.{ℕ, zero, suc, _+_, _*_, _≤_, _<_}
-use mathlib.Core.Bool.{true, not}
+use mathlib.Core.Bool.{true}
 use mathlib.Core.List.{List, _∷_}
 use mathlib.Core.Path.{_≡_, refl, ap, _∙_}
 use native.Mathlib.Omega.{arith}
@@ -9,8 +9,6 @@ use lib.ListN.{length, length-append}
 use borrow.Author.Tests.{leb-true, le-leb, ne-eqb}
 use Rattle.layout.specs.Bytes.{four, bytes4}
 use Rattle.layout.proofs.Bytes.{four-bytes4, length-bytes4, four-behind}
-use Rattle.search.specs.Search.{every}
-use Rattle.search.proofs.Bool.{both-true}
 use Rattle.search.proofs.Search.{every-intro, every-at, every-fails}
 use Rattle.protocol.specs.Version.{size, owner, count, counts, structure, countsBefore, countsStrictlyBefore, atOrBefore, strictlyBefore}
 
@@ -53,10 +51,6 @@ module _ (x y : List ℕ) where
   pub before-intro : ((v : ℕ) → v < 16 → count x v ≤ count y v) → atOrBefore x y ≡ true
   unfolding countsBefore
   before-intro f = every-intro (λ w. leb (count x w) (count y w)) 0 16 (λ v a b. le-leb _ _ (f v b))
-
-  pub strictly-before : strictlyBefore x y ≡ true → atOrBefore x y ≡ true
-  unfolding countsStrictlyBefore
-  strictly-before e = both-true (atOrBefore x y) (not (every (λ v. eqb (count x v) (count y v)) 0 16)) e .0
 
   -- Strictly before: at or before, and less at some user.
   pub strictly-intro : atOrBefore x y ≡ true → (v : ℕ) → v < 16 → count x v < count y v → strictlyBefore x y ≡ true

@@ -2,8 +2,8 @@
 use Prim.Native.Nat.{ℕ, zero, suc, _+_}
 use mathlib.Core.List.{List, [], _∷_}
 use mathlib.Core.Path.{_≡_}
-use Rattle.refusal.specs.Answer.{Answer, accepted, refused}
 use Rattle.refusal.specs.Result.{left}
+use Rattle.refusal.specs.Run.{stateAfter, one}
 use Rattle.protocol.specs.declared.Server.{Server}
 use Rattle.protocol.specs.Server.{made, heldOwn, commit}
 
@@ -12,15 +12,14 @@ pub data ServerCall : Type 0 where
   list : List ℕ → ServerCall
   commit-of : List ℕ → ℕ → ServerCall
 
--- The server's list after calls, newest first, since it was made for N. A listing leaves it as it is.
-unfoldable pub serverAfter : ℕ → List ServerCall → Server
-serverAfter N [] = made N
-serverAfter N (list buffer ∷ earlier) = serverAfter N earlier
-serverAfter N (commit-of x mark ∷ earlier) = left (commit (serverAfter N earlier) x mark) (serverAfter N earlier)
+-- What a call leaves of the server's list. A listing leaves it as it is.
+abbrev pub leaves : Server → ServerCall → Server
+leaves s (list buffer) = s
+leaves s (commit-of x mark) = left (commit s x mark) s
 
-abbrev pub one : {A : Type 0} → Answer A → ℕ
-one (accepted a) = 1
-one (refused n p q) = 0
+-- The server's list after calls, newest first, since it was made for N.
+abbrev pub serverAfter : ℕ → List ServerCall → Server
+serverAfter N = stateAfter leaves (made N)
 
 -- The number of commits accepted.
 unfoldable pub acceptedCommits : ℕ → List ServerCall → ℕ

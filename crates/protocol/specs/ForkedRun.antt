@@ -9,7 +9,7 @@ use Rattle.refusal.specs.Answer.{accepted, refused}
 use Rattle.protocol.specs.Version.{size, count}
 use Rattle.protocol.specs.List.{records}
 use Rattle.protocol.specs.History.{Call, answer, Signed}
-use Rattle.protocol.specs.NoFork.{Premise}
+use Rattle.protocol.specs.NoJoin.{Premise, MarkedPremise}
 
 -- "N is 2; user 0 is A, 1 is B; counts in brackets; marks 1 unless said." The bytes of [a,b] of this owner, with a zero handle.
 unfoldable pub counting : ℕ → ℕ → ℕ → List ℕ
@@ -39,9 +39,11 @@ p5 = callOn 1 (counting 0 2 1 ++ counting 1 1 2)
 abbrev pub forkedRun : List Call
 forkedRun = p4 ∷ p3 ∷ p2 ∷ p1 ∷ []
 
--- Everybody is honest. A's last structure and B's are a fork; the third call accepts a list of two entries; a fifth call on both is refused.
+-- Everybody is honest, and both forms of the premise are met. A's last structure and B's are a fork; the third call accepts a list of two
+-- entries; a fifth call on both is refused.
 pub record ForkedRun : Type 0 where
   pub premise : Premise 2 (λ v. Unit) forkedRun
+  pub marked-premise : MarkedPremise 2 (λ v. Unit) forkedRun
   pub signed-by-a : Signed 2 forkedRun 0 (counting 0 2 1)
   pub signed-by-b : Signed 2 forkedRun 1 (counting 1 1 2)
   pub fewer-of-b : count (counting 0 2 1) 1 < count (counting 1 1 2) 1

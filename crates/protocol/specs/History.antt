@@ -10,11 +10,6 @@ use Rattle.refusal.specs.Answer.{Answer, accepted}
 use Rattle.refusal.specs.Result.{left}
 use Rattle.protocol.specs.Check.{check}
 
--- P holds of each member of a run and what came before it.
-abbrev pub Each : {A : Type 0} → (List A → A → Type 0) → List A → Type 0
-Each P [] = Unit
-Each P (c ∷ earlier) = P earlier c × Each P earlier
-
 -- A call at the client of `user` (a desk call). Lists, marks, handles and lengths may be anything.
 pub record Call : Type 0 where
   pub user : ℕ

@@ -6,9 +6,12 @@ pub mod Server
 pub mod History
 pub mod Meaning
 pub mod CommitMeaning
-pub mod NoFork
+pub mod NoJoin
 pub mod ForkedRun
 pub mod Turns
+pub mod TurnsRun
 pub mod TwoUsers
+pub mod Steady
+pub mod LastTurn
 pub mod Commits
 pub mod Listings

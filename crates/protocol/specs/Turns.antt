@@ -8,12 +8,12 @@ use lib.Dec.{eqb}
 use lib.ListN.{length, take, replicate}
 use Rattle.refusal.specs.Answer.{Answer, accepted, andThen, Refused}
 use Rattle.refusal.specs.Result.{left}
+use Rattle.refusal.specs.Run.{Each}
 use Rattle.protocol.specs.declared.Server.{Server}
 use Rattle.protocol.specs.Version.{size, count}
 use Rattle.protocol.specs.List.{records}
 use Rattle.protocol.specs.Check.{check, lastCount}
 use Rattle.protocol.specs.Server.{made, allHeld, listed, listing, commit}
-use Rattle.protocol.specs.History.{Each}
 
 -- A turn of a user: its handle, and the buffer that it lends to the listing.
 pub record Turn : Type 0 where

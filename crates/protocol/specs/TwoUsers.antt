@@ -3,7 +3,7 @@ use Prim.Native.Nat.{ℕ}
 use mathlib.Core.List.{List, [], _∷_}
 use lib.ListN.{replicate}
 use Rattle.refusal.specs.Answer.{Refused}
-use Rattle.protocol.specs.History.{Each}
+use Rattle.refusal.specs.Run.{Each}
 use Rattle.protocol.specs.Turns.{Turn, turn, after, Fair}
 
 -- A turn with a zero handle and a buffer for sixteen records.

@@ -4,3 +4,4 @@ pub mod Numbered
 pub mod Match
 pub mod Stage
 pub mod Words
+pub mod Run

@@ -4,3 +4,4 @@ pub mod Refusal
 pub mod Order
 pub mod Result
 pub mod Word
+pub mod Run

@@ -1,3 +1,4 @@
 pub mod Slots
 pub mod Follow
 pub mod Steps
+pub mod Lent

@@ -53,7 +53,9 @@ module _ (s : Server) where
   written-more v at next out before after a n o w =
       let front : take at out ≡ heldFrom s 0 v = rw o (take-at (heldFrom s 0 v) (drop at before) at (sym a)) in
       let back : drop next out ≡ drop next before =
-      rw (o, n, a) (drop-append-add (heldFrom s 0 v) (drop (length (heldFrom s 0 v)) before) (length (held s v)) ∙ drop-drop (length (held s v)) (length (heldFrom s 0 v)) before) in
+      rw (o, n, a)
+      (drop-append-add (heldFrom s 0 v) (drop (length (heldFrom s 0 v)) before) (length (held s v)) ∙
+      drop-drop (length (held s v)) (length (heldFrom s 0 v)) before) in
       (rw (held-more v) (simp length-append (omega arith)), rw (held-more v, append-assoc, w, front, back))
 
   -- The next user's records still find room.

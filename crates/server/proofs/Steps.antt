@@ -18,7 +18,7 @@ use Rattle.protocol.specs.declared.Server.{Server}
 use Rattle.version.specs.declared.Version.{Version}
 use Rattle.version.specs.Version.{fields}
 use Rattle.version.proofs.Laws.{count-fields}
-use Rattle.protocol.proofs.Commits.{owner-below}
+use Rattle.protocol.proofs.Conditions.{owner-below}
 use Rattle.protocol.proofs.Held.{held-own}
 
 -- The owner that is read from a record.

@@ -2,6 +2,7 @@
 use crate::held;
 use refusal::Check;
 use refusal::Refusal;
+use version::SIZE;
 ghost use mathlib.Core.Bool.{not, _||_};
 ghost use mathlib.Core.Path.{_≡_};
 ghost use mathlib.Core.List.{List};
@@ -45,7 +46,8 @@ fn in_order(own: u32, records: &[u8], v: usize, new: [u32; 16]) -> bool
 // Test 7 at user v, of a new structure of this owner with these counts.
 fn follows(records: &[u8], owner: usize, new: [u32; 16], v: usize) -> bool
     requires { ⌜ (length (now records) ≡ 1568) × (v < 16) ⌝ }
-    ensures { λ r. ⌜ ((users : ℕ) (x : List ℕ) → owner ≡ ownerOf x → new ≡ fields x .counts → r ≡ followsOf (record { users = users; records = now (records .entry) }) x v) ⌝ }
+    ensures { λ r. ⌜ ((users : ℕ) (x : List ℕ) → owner ≡ ownerOf x → new ≡ fields x .counts → r ≡ followsOf
+        (record { users = users; records = now (records .entry) }) x v) ⌝ }
 {
     let own = held::own_count(records, v);
     if !in_order(own, records, v, new) {
@@ -60,7 +62,8 @@ fn follows(records: &[u8], owner: usize, new: [u32; 16], v: usize) -> bool
 // The lowest user at whom test 7 fails; 16 if it fails at none.
 fn first_apart(records: &[u8], owner: usize, new: [u32; 16]) -> usize
     requires { ⌜ length (now records) ≡ 1568 ⌝ }
-    ensures { λ r. ⌜ ((users : ℕ) (x : List ℕ) → owner ≡ ownerOf x → new ≡ fields x .counts → r ≡ find (λ v. not (followsOf (record { users = users; records = now (records .entry) }) x v)) 0 16) ⌝ }
+    ensures { λ r. ⌜ ((users : ℕ) (x : List ℕ) → owner ≡ ownerOf x → new ≡ fields x .counts → r ≡ find
+        (λ v. not (followsOf (record { users = users; records = now (records .entry) }) x v)) 0 16) ⌝ }
 {
     let mut v = 0;
     while v < 16 {
@@ -84,7 +87,7 @@ pub(crate) fn commit_check(users: u8, records: &[u8], x: &[u8], mark: u8) -> Che
     requires { ⌜ length (now records) ≡ 1568 ⌝ }
     ensures { λ r. ⌜ said r ≡ tried (commitSteps (record { users = users; records = now (records .entry) }) (now (x .entry)) mark) ⌝ }
 {
-    if x.len() != 98 {
+    if x.len() != SIZE {
         return Check::Refused(Refusal::Length(0));
     }
     if !version::well_formed(users, x) {

@@ -1,4 +1,5 @@
-// What is held of one user: the counts in that user's place of the list's records.
+// What is held of one user: the record in that user's place of the list's records.
+use version::SIZE;
 ghost use mathlib.Core.Path.{_≡_};
 ghost use Prim.Native.Nat.{_+_, _*_, _<_};
 ghost use lib.ListN.{length};
@@ -11,8 +12,8 @@ pub(crate) fn counts(records: &[u8], v: usize) -> [u32; 16]
     requires { ⌜ (length (now records) ≡ 1568) × (v < 16) ⌝ }
     ensures { λ r. ⌜ r ≡ fields (part size (now (records .entry)) v) .counts ⌝ }
 {
-    let at = 98 * v;
-    version::counts(&records[at..at + 98])
+    let at = SIZE * v;
+    version::counts(&records[at..at + SIZE])
 }
 
 // User v's own count in its place; 0 says that no record is held of v.
@@ -20,5 +21,6 @@ pub(crate) fn own_count(records: &[u8], v: usize) -> u32
     requires { ⌜ (length (now records) ≡ 1568) × (v < 16) ⌝ }
     ensures { λ r. ⌜ r ≡ count (part size (now (records .entry)) v) v ⌝ }
 {
-    layout::u32_at(records, 98 * v + 34 + 4 * v)
+    let at = SIZE * v;
+    version::count(&records[at..at + SIZE], v as u8)
 }

@@ -5,6 +5,7 @@
 use protocol::Server;
 use refusal::Check;
 use refusal::Refusal;
+use version::SIZE;
 
 mod checks;
 mod held;
@@ -18,6 +19,7 @@ ghost use Rattle.refusal.specs.Result.{Gives, left};
 ghost use Rattle.protocol.specs.Version.{size};
 ghost use Rattle.protocol.specs.Server.{empty as emptyOf, make as makeOf, listed, listing as listingOf, commit as commitOf};
 ghost use Rattle.server.specs.Listed.{listedAs};
+ghost use Rattle.server.specs.Commit.{commitInto};
 
 // What making gives: the check of the number of users, and the server's list.
 pub struct Made {
@@ -65,23 +67,37 @@ pub fn list(server: Server, out: &mut [u8]) -> Listed
     ensures leaves { λ r. ⌜ now (out .exit) ≡ left (listingOf server (now (out .entry))) (now (out .entry)) ⌝ }
 {
     let n = listing::number(&server.records);
-    if out.len() < 98 * n {
+    if out.len() < SIZE * n {
         return Listed::Refused(Refusal::NoRoom);
     }
     listing::write(&server.records, out);
     Listed::Records(n)
 }
 
-// The list with this record in its owner's place.
-fn replace(server: Server, x: &[u8], owner: usize) -> Server
-    requires { ⌜ (length (server .records) ≡ 1568) × (length (now x) ≡ size) × (owner < 16) ⌝ }
-    ensures { λ r. ⌜ r ≡ record { users = server .users; records = take (size * owner) (server .records) ++ (now (x .entry) ++ drop (size * owner + size) (server .records)) } ⌝ }
+// Puts the record into its owner's place.
+fn replace(records: &mut [u8], x: &[u8], owner: usize)
+    requires { ⌜ (length (now records) ≡ 1568) × (length (now x) ≡ size) × (owner < 16) ⌝ }
+    ensures { λ r. ⌜ now (records .exit) ≡ take (size * owner) (now (records .entry))
+        ++ (now (x .entry) ++ drop (size * owner + size) (now (records .entry))) ⌝ }
 {
-    let users = server.users;
-    let mut records = server.records;
-    let at = 98 * owner;
-    bytes::copy(x, &mut records[at..]);
-    Server { users, records }
+    let at = SIZE * owner;
+    bytes::copy(&x[0..SIZE], &mut records[at..]);
+}
+
+// A commit where the sixteen records are lent by themselves. Writes the record's 98 bytes if it is
+// accepted, and nothing else. Refused where the records' length is another, and as `commit` is.
+pub fn commit_into(users: u8, records: &mut [u8], x: &[u8], mark: u8) -> Check
+    ensures { λ r. ⌜ Gives (commitInto users (now (records .entry)) (now (x .entry)) mark) (now (records .entry)) (now (records .exit)) r ⌝ }
+{
+    if records.len() != 1568 {
+        return Check::Refused(Refusal::Length(0));
+    }
+    let check = checks::commit_check(users, records, x, mark);
+    let Check::Passed = check else {
+        return check;
+    };
+    replace(records, x, version::owner(x) as usize);
+    check
 }
 
 // Takes the record in its owner's place, if it is signed by mark 1 and comes next after all that is
@@ -89,11 +105,10 @@ fn replace(server: Server, x: &[u8], owner: usize) -> Server
 pub fn commit(server: Server, x: &[u8], mark: u8) -> Committed
     ensures { λ r. ⌜ Gives (commitOf server (now (x .entry)) mark) server (r .server) (r .check) ⌝ }
 {
-    let check = checks::commit_check(server.users, &server.records, x, mark);
-    let Check::Passed = check else {
-        return Committed { check, server };
-    };
-    let after = replace(server, x, x[1] as usize);
+    let users = server.users;
+    let mut records = server.records;
+    let check = commit_into(users, &mut records, x, mark);
+    let after = Server { users, records };
     Committed {
         check,
         server: after,

@@ -1,6 +1,6 @@
 -- The laws behind the proofs. Other crates cite `Laws`.
 pub mod Laws
-pub mod Roots
+pub mod Constants
 pub mod Bits
 pub mod Rotation
 pub mod Recurrence

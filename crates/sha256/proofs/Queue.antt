@@ -13,7 +13,7 @@ use Rattle.layout.specs.Bytes.{four, values}
 use Rattle.layout.proofs.Values.{length-values, getD-values}
 use Rattle.sha256.specs.declared.State.{State}
 use Rattle.sha256.specs.Sha256.{_⊞_, σ0, σ1, K, W, roundOf, rounds}
-use Rattle.sha256.specs.Rolling.{Rolling}
+use Rattle.sha256.specs.Internal.Rolling.{Rolling}
 use Rattle.sha256.proofs.Recurrence.{recurrence, sixteen-on}
 
 -- The order in which the code adds up T1.

@@ -47,4 +47,8 @@ pub written : (s : State) (l : List ℕ) {l1 l2 l3 l4 l5 l6 l7 l8 : List ℕ} �
 unfolding bytesOf bytes4 values
 written s l h e1 e2 e3 e4 e5 e6 e7 e8 =
     let o : l ≡ values (λ j. getD l j 0) 0 32 = laid-out 32 0 l (omega arith) in
-    rw (e8, e7, e6, e5, e4, e3, e2, e1) (ap (λ (o : List ℕ). put (put (put (put (put (put (put (put o 0 (s .a)) 4 (s .b)) 8 (s .c)) 12 (s .d)) 16 (s .e)) 20 (s .f)) 24 (s .g)) 28 (s .h)) o)
+    rw (e8, e7, e6, e5, e4, e3, e2, e1)
+    (ap
+    (λ (o : List ℕ).
+    put (put (put (put (put (put (put (put o 0 (s .a)) 4 (s .b)) 8 (s .c)) 12 (s .d)) 16 (s .e)) 20 (s .f)) 24 (s .g)) 28 (s .h))
+    o)

@@ -1,5 +1,5 @@
 pub mod Sha256
 pub mod Constants
 pub mod Schedule
-pub mod Rolling
 pub mod Hash
+pub mod Internal

@@ -7,7 +7,7 @@ ghost use lib.ListN.{length, getD};
 ghost use Rattle.layout.specs.Bytes.{four, values};
 ghost use Rattle.sha256.specs.declared.State.{State};
 ghost use Rattle.sha256.specs.Sha256.{K, _⊞_, σ0, σ1, roundOf, rounds, added, compressed};
-ghost use Rattle.sha256.specs.Rolling.{Rolling};
+ghost use Rattle.sha256.specs.Internal.Rolling.{Rolling};
 use crate::State;
 use crate::word::big_sigma0;
 use crate::word::big_sigma1;

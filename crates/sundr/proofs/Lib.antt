@@ -1,6 +1,8 @@
+pub mod AnswerWord
 pub mod At
 pub mod Into
 pub mod Fits
 pub mod ReadProtocol
 pub mod ReadTable
-pub mod Read
+pub mod AnswersRead
+pub mod ServerInBytes

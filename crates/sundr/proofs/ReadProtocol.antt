@@ -12,7 +12,7 @@ use Rattle.protocol.specs.List.{records}
 use Rattle.protocol.specs.Check.{check}
 use Rattle.protocol.specs.History.{Call, called}
 use Rattle.protocol.specs.Meaning.{ToSizes, Why, users, lengths, remembered, placed, unmarked, not-current, last, unordered}
-use Rattle.protocol.proofs.Meaning.{check-means}
+use Rattle.protocol.proofs.CheckMeans.{check-means}
 use Rattle.protocol.specs.Server.{makeSteps, make, empty, slot, held, heldOwn, heldFrom, allHeld, listSteps, listed, follows, replaced, commitSteps, commit}
 use Rattle.protocol.specs.declared.Server.{Server}
 use Rattle.sundr.specs.Server.{sizeSteps, serverIn, bytesOf, makeAt, listedAt}

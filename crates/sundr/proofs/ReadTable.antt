@@ -12,15 +12,16 @@ use Rattle.layout.specs.Bytes.{parts}
 use Rattle.refusal.specs.Answer.{accepted}
 use Rattle.refusal.specs.Order.{unless, inOrder}
 use Rattle.itable.specs.Block as block
+use Rattle.itable.specs.declared.Link.{Link}
 use Rattle.itable.specs.Table.{blocks}
 use Rattle.itable.specs.Write.{numberAbove, writeSteps, blocksGiven}
 use Rattle.itable.specs.Lookup.{Entry, found, absent, lookup}
-use Rattle.itable.specs.LookupMeaning.{Link, toRoot, Fails, missing, wrong-hash, malformed, left-over, later, Why, lengths, along}
+use Rattle.itable.specs.LookupMeaning.{Fails, missing, wrong-hash, malformed, left-over, later, Why, lengths, along}
 use Rattle.itable.specs.Inode.{Span, fileLength, blockCheck}
 use Rattle.itable.specs.InodeMeaning as files
-use Rattle.itable.proofs.Rows.{at-most-blocks}
-use Rattle.itable.proofs.LookupMeaning.{lookup-means}
-use Rattle.itable.proofs.InodeMeaning.{block-check-means}
+use Rattle.itable.proofs.AtMostBlocks.{at-most-blocks}
+use Rattle.itable.proofs.LookupMeans.{lookup-means}
+use Rattle.itable.proofs.BlockCheckMeans.{block-check-means}
 use Rattle.sundr.specs.Lookup.{lookedUp, isFound}
 use Rattle.sundr.specs.Read.{IsRead}
 use Rattle.sundr.proofs.Fits.{Fits, small, small-fits, each-fits, result-read, refusal-read, answer-read, in-order-read}
@@ -55,7 +56,7 @@ module _ (handle : List ℕ) (i : ℕ) (path : List ℕ) where
 
   why-fits : (n p q : ℕ) → Why handle i path n p q → Fits n p q
   why-fits n p q (lengths f) = small 2 0 refl
-  why-fits n p q (along w f) = fails-fits (w .few) 0 (toRoot handle) n p f
+  why-fits n p q (along w f) = fails-fits (w .few) 0 (block.toRoot handle) n p f
 
 found-fits : (e : Entry) → (isFound e < 2 ^ 24) × (0 < 2 ^ 32)
 found-fits (found handle) = (omega arith, omega arith)

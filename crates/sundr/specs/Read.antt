@@ -48,7 +48,7 @@ abbrev pub IsReadPlain : {A : Type 0} → Answer A → Type 0
 IsReadPlain = IsRead (λ a. 0) (λ a. 0)
 
 -- So it is with every call of include/sundr.h, whatever is given: no number, position or result is too large for its bits. The numbers are
--- those of the contracts in src/lib.rt.
+-- those of the contracts in src/.
 pub record AnswersRead : Type 0 where
   pub sha256 : (message : List ℕ) (room : ℕ) → IsReadPlain (hash message room)
   pub check : (users user : ℕ) (memory list marks handle : List ℕ) (room : ℕ) → IsReadPlain (check users user memory list marks handle room)

@@ -1,6 +1,7 @@
 -- A server's list in lent bytes, for callers that lend it as such: the number of users, then the sixteen records, 1,569 bytes in all.
 use Prim.Native.Nat.{ℕ}
 use mathlib.Core.List.{List, [], _∷_}
+use mathlib.Core.Path.{_≡_}
 use lib.Dec.{eqb}
 use lib.ListN.{length, getD, drop}
 use Rattle.refusal.specs.Answer.{Answer, accepted, andThen}
@@ -14,6 +15,11 @@ serverIn b = record { users = getD b 0 0; records = drop 1 b }
 
 unfoldable pub bytesOf : Server → List ℕ
 bytesOf s = s .users ∷ s .records
+
+-- The list in C is one thing in its two forms: every list is read back from its bytes, and every 1,569 bytes are those of the list in them.
+pub record ServerInBytes : Type 0 where
+  pub read-back : (s : Server) → serverIn (bytesOf s) ≡ s
+  pub written-back : (b : List ℕ) → length b ≡ 1569 → bytesOf (serverIn b) ≡ b
 
 -- "A length is not the stated one: fixed sizes": 2, before all that the call on the list itself refuses.
 unfoldable pub sizeSteps : List ℕ → List Step

@@ -2,13 +2,13 @@
 use Prim.Native.Nat.{ℕ, _+_}
 use mathlib.Core.List.{List}
 use lib.ListN.{getD}
-use Rattle.layout.specs.Bytes.{values}
+use Rattle.layout.specs.Bytes.{values, bytesAt}
 use Rattle.protocol.specs.Version.{owner, count}
 use Rattle.version.specs.declared.Version.{Version}
 
 -- The fields of a record's bytes; zeros stand past the end of the bytes.
 unfoldable pub fields : List ℕ → Version
-fields x = record { owner = owner x; handle = values (λ i. getD x (2 + i) 0) 0 32; counts = values (count x) 0 16 }
+fields x = record { owner = owner x; handle = bytesAt x 2 32; counts = values (count x) 0 16 }
 
 -- The count of user v among a structure's counts.
 abbrev pub countIn : List ℕ → ℕ → ℕ

@@ -27,7 +27,11 @@ module _ (nums handles : List ℕ) (room : ℕ) where
       pub not-ascending : i < length nums → refused 11 i 0 ≡ tried (writeSteps nums handles room)
       unfolding writeSteps inOrder
       not-ascending h =
-          rw (le-leb (length nums) 4096 few, eq-eqb (length handles) (32 * length nums) handled, some-fails (numberAbove nums) (length nums) i ei (λ q. omega arith))
+          rw (
+            le-leb (length nums) 4096 few,
+            eq-eqb (length handles) (32 * length nums) handled,
+            some-fails (numberAbove nums) (length nums) i ei (λ q. omega arith),
+          )
           (ap (λ m. refused 11 m 0) ei)
 
       module _ (all : length nums ≤ i) (b : ℕ) (eb : b ≡ blocks (length nums)) where

@@ -14,8 +14,10 @@ use Rattle.itable.specs.Block.{size}
 use Rattle.itable.specs.Table.{Level, wide, usedIn, block, row, files}
 use Rattle.itable.proofs.Block.{Sized, length-block}
 use Rattle.itable.proofs.Rows.{length-row}
-use Rattle.writer.specs.Children.{children, ReadBack}
-use Rattle.writer.proofs.Bytes.{mid, mid-length}
+use Rattle.block.specs.Filled.{filled}
+use Rattle.block.proofs.Lent.{mid, mid-length}
+use Rattle.block.proofs.Filling.{is-filled}
+use Rattle.writer.specs.Internal.Children.{children, ReadBack}
 use Rattle.writer.proofs.Blocks.{block-cong, row-last}
 
 pub children-sized : (o : List ℕ) (from n : ℕ) → Sized (children o from n)
@@ -56,19 +58,29 @@ pub files-sized : (nums handles : List ℕ) → length handles ≡ 32 * length n
 unfolding files
 files-sized nums handles h = λ j l. part-length 32 handles j (omega arith)
 
--- The leaf over the files from 16 k on.
+-- The block of 642 bytes from p on, lent.
+pub lent-length : (o : List ℕ) (p : ℕ) → p + 642 ≤ length o → length (take (p + 642 - p) (drop p o)) ≡ 642
+lent-length o p h =
+    let a : p + 642 - p ≡ 642 = omega arith in rw a (length-take-le 642 (drop p o) (simp length-drop (omega arith)))
+
+-- The leaf over the files from 16 k on, as it is filled.
 pub leaf-is :
-    (nums handles : List ℕ) (k u : ℕ) → length handles ≡ 32 * length nums → u ≡ usedIn (length nums) k → u ≤ 16 → 16 * k + u ≤ length nums →
-    block 3 (files (take (16 * k + u - 16 * k) (drop (16 * k) nums)) (take (512 * k + 32 * u - 512 * k) (drop (512 * k) handles))) 0 ≡
+    (nums handles lent : List ℕ) (k u : ℕ) → length handles ≡ 32 * length nums → u ≡ usedIn (length nums) k → u ≤ 16 → 16 * k + u ≤ length nums →
+    length lent ≡ 642 →
+    filled 3 (take (16 * k + u - 16 * k) (drop (16 * k) nums)) (take (512 * k + 32 * u - 512 * k) (drop (512 * k) handles)) lent ≡
     block 3 (files nums handles) k
 unfolding files
-leaf-is nums handles k u handled eu few h =
+leaf-is nums handles lent k u handled eu few h long =
     let a : 16 * k + u - 16 * k ≡ u = omega arith in
     let b : 512 * k + 32 * u - 512 * k ≡ 32 * u = omega arith in
     let d : 512 * k ≡ 32 * (16 * k) = omega arith in
-    let n : length (take u (drop (16 * k) nums)) ≡ u = length-take-le u (drop (16 * k) nums) (simp length-drop (omega arith)) in
+    let ns : List ℕ = take u (drop (16 * k) nums) in
+    let hs : List ℕ = take (32 * u) (drop (32 * (16 * k)) handles) in
+    let n : length ns ≡ u = length-take-le u (drop (16 * k) nums) (simp length-drop (omega arith)) in
+    let v : length hs ≡ 32 * u = length-take-le (32 * u) (drop (32 * (16 * k)) handles) (simp length-drop (omega arith)) in
     rw (a, b, d)
-    (block-cong 3 (files (take u (drop (16 * k) nums)) (take (32 * u) (drop (32 * (16 * k)) handles))) (files nums handles) 0 k
+    (is-filled 3 ns hs lent (omega arith) (omega arith) long ∙
+    block-cong 3 (files ns hs) (files nums handles) 0 k
     (rw n (omega arith))
     (λ j l.
     let m : j < u = omega arith in (
@@ -76,33 +88,23 @@ leaf-is nums handles k u handled eu few h =
       rw (zero-add j) (part-part 32 handles (16 * k) u j m),
     )))
 
--- What the filler asks of the numbers and hashes that were read back.
-pub inner-fits :
-    (nums hashes : List ℕ) (u : ℕ) → u ≤ 16 → length nums ≡ 16 → length hashes ≡ 512 →
-    (length (take (u - 0) nums) ≤ 16) × (length (take (32 * u - 0) hashes) ≡ 32 * length (take (u - 0) nums))
-inner-fits nums hashes u few ln lh =
-    let a : length (take (u - 0) nums) ≡ u = rw (sub-zero u) (length-take-le u nums (omega arith)) in
-    let b : length (take (32 * u - 0) hashes) ≡ 32 * u = rw (sub-zero (32 * u)) (length-take-le (32 * u) hashes (omega arith)) in
-    (omega arith, omega arith)
-
-pub lent-length : (o : List ℕ) (p : ℕ) → p + 642 ≤ length o → length (take (p + 642 - p) (drop p o)) ≡ 642
-lent-length o p h =
-    let a : p + 642 - p ≡ 642 = omega arith in rw a (length-take-le 642 (drop p o) (simp length-drop (omega arith)))
-
 pub unwritten : (κ from n : ℕ) (o : List ℕ) → o ≡ take (642 * (from + n)) o ++ (row κ (children o from n) 0 0 ++ drop (642 * (from + n + 0)) o)
 unfolding row
 unwritten κ from n o = rw (add-zero (from + n)) (sym (take-append-drop (642 * (from + n)) o))
 
--- The inner block over the blocks from 16 k on, which were read back.
+-- The inner block over the blocks from 16 k on, which were read back, as it is filled.
 pub inner-is :
-    (κ from n k u : ℕ) (o out rest nums hashes : List ℕ) → u ≡ usedIn n k → u ≤ 16 → 16 * k + u ≤ n → length nums ≡ 16 →
-    642 * (from + n) ≤ length o → out ≡ take (642 * (from + n)) o ++ rest →
+    (κ from n k u : ℕ) (o out rest nums hashes lent : List ℕ) → u ≡ usedIn n k → u ≤ 16 → 16 * k + u ≤ n → length nums ≡ 16 →
+    length hashes ≡ 512 → length lent ≡ 642 → 642 * (from + n) ≤ length o → out ≡ take (642 * (from + n)) o ++ rest →
     ReadBack (take (642 * (from + 16 * k) + 642 * u - 642 * (from + 16 * k)) (drop (642 * (from + 16 * k)) out)) u nums hashes →
-    block κ (files (take (u - 0) nums) (take (32 * u - 0) hashes)) 0 ≡ block κ (children o from n) k
+    filled κ (take (u - 0) nums) (take (32 * u - 0) hashes) lent ≡ block κ (children o from n) k
 unfolding files children
-inner-is κ from n k u o out rest nums hashes eu few h ln room e R =
+inner-is κ from n k u o out rest nums hashes lent eu few h ln lh long room e R =
     let a : 642 * (from + 16 * k) + 642 * u - 642 * (from + 16 * k) ≡ 642 * u = omega arith in
-    let m : length (take u nums) ≡ u = length-take-le u nums (omega arith) in
+    let ns : List ℕ = take u nums in
+    let hs : List ℕ = take (32 * u) hashes in
+    let m : length ns ≡ u = length-take-le u nums (omega arith) in
+    let v : length hs ≡ 32 * u = length-take-le (32 * u) hashes (omega arith) in
     let same : (j : ℕ) → j < u → part size (take (642 * u) (drop (642 * (from + 16 * k)) out)) j ≡ part size o (from + (16 * k + j)) =
     λ j l.
     let i : from + 16 * k + j ≡ from + (16 * k + j) = omega arith in
@@ -110,7 +112,8 @@ inner-is κ from n k u o out rest nums hashes eu few h ln room e R =
     (ap (part size out) i ∙
     (ap (λ b. part size b (from + (16 * k + j))) e ∙ part-kept size o rest (642 * (from + n)) (from + (16 * k + j)) (omega arith) room)) in
     rw (sub-zero u, sub-zero (32 * u))
-    (block-cong κ (files (take u nums) (take (32 * u) hashes)) (children o from n) 0 k
+    (is-filled κ ns hs lent (omega arith) (omega arith) long ∙
+    block-cong κ (files ns hs) (children o from n) 0 k
     (rw m (omega arith))
     (λ j l.
     let t : j < u = omega arith in (

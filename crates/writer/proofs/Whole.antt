@@ -13,7 +13,7 @@ use Rattle.itable.specs.Block.{size, number}
 use Rattle.itable.specs.Table.{Level, wide, usedIn, block, above, row, leaves, fours, fives, written}
 use Rattle.itable.proofs.Block.{Sized, above-sized, number-block}
 use Rattle.itable.proofs.Rows.{length-row, row-part, no-fours, some-fours, no-fives, some-fives}
-use Rattle.writer.specs.Children.{children}
+use Rattle.writer.specs.Internal.Children.{children}
 use Rattle.writer.proofs.Blocks.{block-cong, row-cong}
 
 -- Behind a row that stands in the buffer, what was written over its blocks as they were read back is the row over it.
@@ -104,5 +104,8 @@ module _ (T : Level) (s : Sized T) (few : T .count ≤ 4096) (o : List ℕ) (l :
         let b : fives (T .count) ≡ 1 = some-fives (T .count) (omega arith) ∙ omega arith in
         let d : drop 642 (drop (642 * (l + f)) o) ≡ drop (642 * (l + f + 1)) o =
         drop-drop 642 (642 * (l + f)) o ∙ (let m : 642 * (l + f) + 642 ≡ 642 * (l + f + 1) = omega arith in ap (λ x. drop x o) m) in
-        let r = inner-row 4 (above 3 T) (above-sized 3 T) (omega arith) (row 3 T 0 l) (drop (642 * (l + f)) o) p l f 1 (length-row 3 T s 0 l (omega arith)) (omega arith) (omega arith) (fours-over p ep) 5 q eq in
+        let long : length (row 3 T 0 l) ≡ 642 * l = length-row 3 T s 0 l (omega arith) in
+        let r =
+        inner-row 4 (above 3 T) (above-sized 3 T) (omega arith) (row 3 T 0 l) (drop (642 * (l + f)) o) p l f 1 long (omega arith) (omega arith)
+        (fours-over p ep) 5 q eq in
         r ∙ rw (d, table-is f 1 a b, append-assoc (row 3 T 0 l), append-assoc (row 4 (above 3 T) 0 f))

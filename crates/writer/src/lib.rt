@@ -2,7 +2,6 @@
 // lent buffer. All tests come before the first store. The i-handle is the hash of the last block,
 // which the caller takes; nothing is read but what is lent, and nothing is kept between calls.
 
-mod block;
 mod count;
 mod row;
 
@@ -16,6 +15,9 @@ ghost use Rattle.refusal.specs.Refusal.{said};
 ghost use Rattle.refusal.specs.Order.{tried};
 ghost use Rattle.itable.specs.Write.{numberAbove, writeSteps};
 ghost use Rattle.writer.specs.Written.{Writes};
+
+// The most files that a table has.
+const MOST: usize = 4096;
 
 // The number of blocks that stand at the front of the buffer, or why none was written.
 pub enum Written {
@@ -45,17 +47,18 @@ fn admit(numbers: &[u64], handles: &[u8], room: usize) -> Check
     ensures { λ r. ⌜ said r ≡ tried (writeSteps (now (numbers .entry)) (now (handles .entry)) room) ⌝ }
 {
     let n = numbers.len();
-    if 4096 < n {
+    if MOST < n {
         return Check::Refused(Refusal::Length(0));
     }
     if handles.len() != 32 * n {
         return Check::Refused(Refusal::Length(0));
     }
     let i = not_above(numbers);
+    let whole = block::SIZE * count::blocks(n);
     if i < n {
         return Check::Refused(Refusal::NotAscending(i));
     }
-    if room < 642 * count::blocks(n) {
+    if room < whole {
         return Check::Refused(Refusal::NoRoom);
     }
     Check::Passed

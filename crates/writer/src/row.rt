@@ -1,16 +1,18 @@
 // Rows of blocks: the leaves over the files, and inner blocks over blocks that are written already.
-use crate::block;
 use crate::count;
+use block::SIZE;
+use block::fill;
 ghost use mathlib.Core.Path.{_≡_};
 ghost use Prim.Native.Nat.{_+_, _*_, _≤_};
 ghost use mathlib.Core.List.{_++_};
 ghost use lib.ListN.{length, take, drop};
 ghost use Rattle.itable.specs.Table.{files, row, wide};
-ghost use Rattle.writer.specs.Children.{children, ReadBack};
+ghost use Rattle.writer.specs.Internal.Children.{children, ReadBack};
 
 // Writes the l leaves over the files.
 pub(crate) fn leaves(numbers: &[u64], handles: &[u8], l: usize, out: &mut [u8])
-    requires { ⌜ (l ≡ wide (length (now numbers))) × (length (now numbers) ≤ 4096) × (length (now handles) ≡ 32 * length (now numbers)) × (642 * l ≤ length (now out)) ⌝ }
+    requires { ⌜ (l ≡ wide (length (now numbers))) × (length (now numbers) ≤ 4096) × (length (now handles) ≡ 32 * length (now numbers)) ×
+        (642 * l ≤ length (now out)) ⌝ }
     ensures { λ r. ⌜ now (out .exit) ≡ row 3 (files (now (numbers .entry)) (now (handles .entry))) 0 l ++ drop (642 * l) (now (out .entry)) ⌝ }
 {
     let n = numbers.len();
@@ -19,12 +21,12 @@ pub(crate) fn leaves(numbers: &[u64], handles: &[u8], l: usize, out: &mut [u8])
         let u = count::used_in(n, k);
         let a = 16 * k;
         let b = 512 * k;
-        let at = 642 * k;
-        block::fill(
+        let at = SIZE * k;
+        fill::fill(
             3,
             &numbers[a..a + u],
             &handles[b..b + 32 * u],
-            &mut out[at..at + 642],
+            &mut out[at..at + SIZE],
         );
         k += 1;
     }
@@ -37,10 +39,10 @@ fn read_back(blocks: &[u8], u: usize, numbers: &mut [u64], hashes: &mut [u8])
 {
     let mut j = 0;
     while j < u {
-        let a = 642 * j;
+        let a = SIZE * j;
         let b = 32 * j;
-        numbers[j] = layout::u64_at(blocks, a + 2);
-        sha256::sha256(&blocks[a..a + 642], &mut hashes[b..b + 32]);
+        numbers[j] = block::number(&blocks[a..a + SIZE], 0);
+        sha256::sha256(&blocks[a..a + SIZE], &mut hashes[b..b + 32]);
         j += 1;
     }
 }
@@ -48,21 +50,22 @@ fn read_back(blocks: &[u8], u: usize, numbers: &mut [u64], hashes: &mut [u8])
 // Writes the w blocks of a kind over the n blocks from block `from` on, behind them.
 pub(crate) fn inner(kind: u8, from: usize, n: usize, w: usize, out: &mut [u8])
     requires { ⌜ (w ≡ wide n) × (1 ≤ n) × (n ≤ 256) × (from ≤ 256) × (642 * (from + n + w) ≤ length (now out)) ⌝ }
-    ensures { λ r. ⌜ now (out .exit) ≡ take (642 * (from + n)) (now (out .entry)) ++ (row kind (children (now (out .entry)) from n) 0 w ++ drop (642 * (from + n + w)) (now (out .entry))) ⌝ }
+    ensures { λ r. ⌜ now (out .exit) ≡ take (642 * (from + n)) (now (out .entry)) ++
+        (row kind (children (now (out .entry)) from n) 0 w ++ drop (642 * (from + n + w)) (now (out .entry))) ⌝ }
 {
     let mut numbers = [0u64; 16];
     let mut hashes = [0u8; 512];
     let mut k = 0;
     while k < w {
         let u = count::used_in(n, k);
-        let a = 642 * (from + 16 * k);
-        read_back(&out[a..a + 642 * u], u, &mut numbers, &mut hashes);
-        let at = 642 * (from + n + k);
-        block::fill(
+        let a = SIZE * (from + 16 * k);
+        read_back(&out[a..a + SIZE * u], u, &mut numbers, &mut hashes);
+        let at = SIZE * (from + n + k);
+        fill::fill(
             kind,
             &numbers[0..u],
             &hashes[0..32 * u],
-            &mut out[at..at + 642],
+            &mut out[at..at + SIZE],
         );
         k += 1;
     }

@@ -1,5 +1,5 @@
 -- `return false` exhibits a number that is not below the next.
--- The invariant: each number passed is below the next.
+-- The invariant: each number passed is below the next, and the last one read is that of slot j.
 use Prim.Native.Nat.{ℕ, _+_, _≤_, _<_, _-_}
 use mathlib.Core.Bool.{true}
 use mathlib.Core.Path.{_≡_, sym}
@@ -14,19 +14,21 @@ use Rattle.block.proofs.ascending.Statement.{statement}
 use Rattle.block.proofs.ascending.Tie as tie
 
 abbrev Inv-loop : tie.InvT-loop
-Inv-loop b used j₀ j = (used ≡ block.used b) × (used < 256) × (j ≤ used) × ((m : ℕ) → m < j → ltb (block.number b m) (block.number b (m + 1)) ≡ true)
+Inv-loop b used last₀ j₀ last j =
+    (used ≡ block.used b) × (j ≤ used - 1) × (last ≡ block.number b j) ×
+    ((m : ℕ) → m < j → ltb (block.number b m) (block.number b (m + 1)) ≡ true)
 
 abbrev μ-loop : tie.MeasureT-loop
-μ-loop b used j₀ j = used - j
+μ-loop b used last₀ j₀ last j = used - j
 
-byte-at-requires : tie.Need-byte-at-requires Inv-loop μ-loop
-byte-at-requires c κs = search needs
+used-requires : tie.Need-used-requires Inv-loop μ-loop
+used-requires c κs = search needs
 
-cast-used : tie.Need-cast-used Inv-loop μ-loop
-cast-used c = omega arith
+number-requires : tie.Need-number-requires Inv-loop μ-loop
+number-requires c κs = search needs
 
 loop-holds : tie.Need-loop-holds Inv-loop μ-loop
-loop-holds c = (c .byte-at .ensures, omega arith, omega arith, λ m h. absurd (omega arith))
+loop-holds c = (c .before .used .ensures, omega arith, c .number .ensures, λ m h. absurd (omega arith))
 
 add-loop : tie.Need-add-loop Inv-loop μ-loop
 add-loop c = omega arith
@@ -34,18 +36,17 @@ add-loop c = omega arith
 add-number : tie.Need-add-number Inv-loop μ-loop
 add-number c = omega arith
 
-number-requires : tie.Need-number-requires Inv-loop μ-loop
-number-requires c κs = omega arith
-
 number-requires-2 : tie.Need-number-requires-2 Inv-loop μ-loop
-number-requires-2 c κs = omega arith
+number-requires-2 c κs = search needs
 
 returns : tie.Need-returns Inv-loop μ-loop
 unfolding block.ascending
 returns c =
+    let next = c .before in
+    let l = next .before .before .loop in
     sym
-    (every-fails _ _ _ (c .before .before .before .before .loop .j) (omega arith) (omega arith)
-    (read-above _ _ (c .before .before .number .ensures) (c .before .number2 .ensures) (c .if1 .taken)))
+    (every-fails _ _ _ (l .j) (omega arith) (omega (arith, l .inv .0))
+    (read-above _ _ (next .number2 .ensures) (l .inv .2) (c .if1 .taken)))
 
 add-j : tie.Need-add-j Inv-loop μ-loop
 add-j c = omega arith
@@ -54,17 +55,18 @@ loop-less : tie.Need-loop-less Inv-loop μ-loop
 loop-less c = omega arith
 
 loop-again : tie.Need-loop-again Inv-loop μ-loop
-loop-again c = (
-  c .before .before .before .before .loop .inv .0,
-  omega arith,
-  omega arith,
-  below-more _ _ (c .before .before .before .before .loop .inv .3)
-      (read-below _ _ (c .before .before .number .ensures) (c .before .number2 .ensures) (c .if1 .left)),
-)
+loop-again c =
+    let next = c .before in
+    let i = next .before .before .loop .inv in (
+      i .0,
+      omega arith,
+      next .number2 .ensures,
+      below-more _ _ (i .3) (read-below _ _ (next .number2 .ensures) (i .2) (c .if1 .left)),
+    )
 
 returns-2 : tie.Need-returns-2 Inv-loop μ-loop
 unfolding block.ascending
-returns-2 c = sym (every-intro _ _ _ (λ m a l. c .before .loop .inv .3 m (omega arith)))
+returns-2 c = let i = c .before .loop .inv in sym (every-intro _ _ _ (λ m a l. i .3 m (omega (arith, i .0))))
 
 pub ascending-spec : {M : Type 1} → statement M
 ascending-spec =
@@ -72,12 +74,11 @@ ascending-spec =
     (tie.spec
     Inv-loop
     μ-loop
-    byte-at-requires
-    cast-used
+    used-requires
+    number-requires
     loop-holds
     add-loop
     add-number
-    number-requires
     number-requires-2
     returns
     add-j

@@ -4,17 +4,17 @@ use borrow.Author.Needs.{needs}
 use Rattle.block.proofs.kind_due.Statement.{statement}
 use Rattle.block.proofs.kind_due.Tie as tie
 
-byte-at-requires : tie.Need-byte-at-requires
-byte-at-requires c κs = search needs
+kind-requires : tie.Need-kind-requires
+kind-requires c κs = search needs
 
 returns : tie.Need-returns
-returns c = below-root _ _ _ (c .before .byte-at .ensures) (c .if1 .taken)
+returns c = below-root _ _ _ (c .before .kind .ensures) (c .if1 .taken)
 
 returns-2 : tie.Need-returns-2
-returns-2 c = no-kind _ _ _ (c .before .before .byte-at .ensures) (c .before .if1 .left) (c .if2 .taken)
+returns-2 c = no-kind _ _ _ (c .before .before .kind .ensures) (c .before .if1 .left) (c .if2 .taken)
 
 returns-3 : tie.Need-returns-3
-returns-3 c = root-kind _ _ _ (c .before .before .byte-at .ensures) (c .before .if1 .left) (c .if2 .left)
+returns-3 c = root-kind _ _ _ (c .before .before .kind .ensures) (c .before .if1 .left) (c .if2 .left)
 
 pub kind-due-spec : {M : Type 1} → statement M
-kind-due-spec = tie.close (tie.spec byte-at-requires returns returns-2 returns-3)
+kind-due-spec = tie.close (tie.spec kind-requires returns returns-2 returns-3)

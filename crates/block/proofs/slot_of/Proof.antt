@@ -14,28 +14,26 @@ use Rattle.block.proofs.slot_of.Statement.{statement}
 use Rattle.block.proofs.slot_of.Tie as tie
 
 abbrev Inv-loop : tie.InvT-loop
-Inv-loop b i used j₀ j = (j ≤ used) × (used ≡ block.used b) × (used < 256) × ((m : ℕ) → m < j → eqb (block.number b m) i ≡ false)
+Inv-loop b i used j₀ j = (j ≤ used) × (used ≡ block.used b) × ((m : ℕ) → m < j → eqb (block.number b m) i ≡ false)
 
 abbrev μ-loop : tie.MeasureT-loop
 μ-loop b i used j₀ j = used - j
 
-byte-at-requires : tie.Need-byte-at-requires Inv-loop μ-loop
-byte-at-requires c κs = search needs
-
-cast-used : tie.Need-cast-used Inv-loop μ-loop
-cast-used c = omega arith
+used-requires : tie.Need-used-requires Inv-loop μ-loop
+used-requires c κs = search needs
 
 loop-holds : tie.Need-loop-holds Inv-loop μ-loop
-loop-holds c = (omega arith, c .byte-at .ensures, omega arith, λ m h. absurd (omega arith))
+loop-holds c = (omega arith, c .used .ensures, λ m h. absurd (omega arith))
 
 number-requires : tie.Need-number-requires Inv-loop μ-loop
-number-requires c κs = omega arith
+number-requires c κs = search needs
 
 returns : tie.Need-returns Inv-loop μ-loop
 returns c =
+    let read = c .before in
+    let i = read .before .before .loop .inv in
     sym
-    (find-at _ 0 _ _ (omega arith) (omega arith) (λ m _ l. c .before .before .before .loop .inv .3 m l)
-    (eq-eqb _ _ (sym (c .before .number .ensures) ∙ c .if1 .taken)))
+    (find-at _ 0 _ _ (omega arith) (omega (arith, i .1)) (λ m _ l. i .2 m l) (eq-eqb _ _ (sym (read .number .ensures) ∙ c .if1 .taken)))
 
 add-j : tie.Need-add-j Inv-loop μ-loop
 add-j c = omega arith
@@ -44,18 +42,16 @@ loop-less : tie.Need-loop-less Inv-loop μ-loop
 loop-less c = omega arith
 
 loop-again : tie.Need-loop-again Inv-loop μ-loop
-loop-again c = (
-  omega arith,
-  c .before .before .before .loop .inv .1,
-  omega arith,
-  below-more _ _ (c .before .before .before .loop .inv .3)
-      (ne-eqb _ _ (λ e. c .if1 .left (c .before .number .ensures ∙ e))),
-)
+loop-again c =
+    let read = c .before in
+    let i = read .before .before .loop .inv in
+    (omega arith, i .1, below-more _ _ (i .2) (ne-eqb _ _ (λ e. c .if1 .left (read .number .ensures ∙ e))))
 
 returns-2 : tie.Need-returns-2 Inv-loop μ-loop
 returns-2 c =
-    let e : c .before .loop .j ≡ c .before .before .byte-at .result = omega arith in
-    sym (find-none _ 0 _ (λ m a l. c .before .loop .inv .3 m (omega arith)) ∙ omega arith)
+    let l = c .before .loop in
+    let e : l .j ≡ c .before .before .used .result = omega arith in
+    sym (find-none _ 0 _ (λ m a h. l .inv .2 m (omega (arith, l .inv .1))) ∙ omega (arith, l .inv .1))
 
 pub slot-of-spec : {M : Type 1} → statement M
 slot-of-spec =
@@ -63,8 +59,7 @@ slot-of-spec =
     (tie.spec
     Inv-loop
     μ-loop
-    byte-at-requires
-    cast-used
+    used-requires
     loop-holds
     number-requires
     returns

@@ -4,24 +4,27 @@ use borrow.Author.Needs.{needs}
 use Rattle.block.proofs.used_due.Statement.{statement}
 use Rattle.block.proofs.used_due.Tie as tie
 
-byte-at-requires : tie.Need-byte-at-requires
-byte-at-requires c κs = search needs
+used-requires : tie.Need-used-requires
+used-requires c κs = search needs
 
 returns : tie.Need-returns
-returns c = too-many _ _ _ (c .before .byte-at .ensures) (c .if1 .taken)
+returns c = too-many _ _ _ (c .before .used .ensures) (c .if1 .taken)
 
 returns-2 : tie.Need-returns-2
-returns-2 c = some-used _ _ _ (c .before .before .byte-at .ensures) (c .before .if1 .left) (c .if2 .taken)
+returns-2 c = some-used _ _ _ (c .before .before .used .ensures) (c .before .if1 .left) (c .if2 .taken)
 
 returns-3 : tie.Need-returns-3
-returns-3 c = empty-child _ _ _ (c .before .before .before .byte-at .ensures) (c .before .if2 .left) (c .if3 .taken)
+returns-3 c = let none = c .before in empty-child _ _ _ (none .before .before .used .ensures) (none .if2 .left) (c .if3 .taken)
 
-byte-at-requires-2 : tie.Need-byte-at-requires-2
-byte-at-requires-2 c κs = search needs
+kind-requires : tie.Need-kind-requires
+kind-requires c κs = search needs
 
 returns-4 : tie.Need-returns-4
-returns-4 c = empty-root _ _ _ (c .before .before .before .before .byte-at .ensures) (c .before .before .if2 .left) (c .before .if3 .left) _ (c .byte-at2 .ensures)
+returns-4 c =
+    let tested = c .before in
+    let none = tested .before in
+    empty-root _ _ _ (none .before .before .used .ensures) (none .if2 .left) (tested .if3 .left) _ (c .kind .ensures)
 
 pub used-due-spec : {M : Type 1} → statement M
 used-due-spec =
-    tie.close (tie.spec byte-at-requires returns returns-2 returns-3 byte-at-requires-2 returns-4)
+    tie.close (tie.spec used-requires returns returns-2 returns-3 kind-requires returns-4)

@@ -6,24 +6,19 @@ use borrow.Author.Needs.{needs}
 use Rattle.block.proofs.well_formed.Statement.{statement}
 use Rattle.block.proofs.well_formed.Tie as tie
 
-byte-at-requires : tie.Need-byte-at-requires
-byte-at-requires c κs = search needs
-
-cast-used : tie.Need-cast-used
-cast-used c = search needs
-
 kind-due-requires : tie.Need-kind-due-requires
 kind-due-requires c κs = search needs
 
 returns : tie.Need-returns
-returns c = wrong-kind _ _ _ (sym (c .before .kind-due .ensures) ∙ not-true _ (c .if1 .taken))
+returns c = wrong-kind _ _ (sym (c .before .kind-due .ensures) ∙ not-true _ (c .if1 .taken))
 
 used-due-requires : tie.Need-used-due-requires
 used-due-requires c κs = search needs
 
 returns-2 : tie.Need-returns-2
 returns-2 c =
-    wrong-use _ _ _ (sym (c .before .before .before .kind-due .ensures) ∙ not-false _ (c .before .before .if1 .left))
+    let kind = c .before .before in
+    wrong-use _ _ (sym (kind .before .kind-due .ensures) ∙ not-false _ (kind .if1 .left))
     (sym (c .before .used-due .ensures) ∙ not-true _ (c .if2 .taken))
 
 ascending-requires : tie.Need-ascending-requires
@@ -31,9 +26,17 @@ ascending-requires c κs = search needs
 
 returns-3 : tie.Need-returns-3
 returns-3 c =
-    not-ascending _ _ _ (sym (c .before .before .before .before .before .kind-due .ensures) ∙ not-false _ (c .before .before .before .before .if1 .left))
-    (sym (c .before .before .before .used-due .ensures) ∙ not-false _ (c .before .before .if2 .left))
+    let slots = c .before .before in
+    let kind = slots .before .before in
+    not-ascending _ _ (sym (kind .before .kind-due .ensures) ∙ not-false _ (kind .if1 .left))
+    (sym (slots .before .used-due .ensures) ∙ not-false _ (slots .if2 .left))
     (sym (c .before .ascending .ensures) ∙ not-true _ (c .if3 .taken))
+
+used-requires : tie.Need-used-requires
+used-requires c κs = search needs
+
+cast-zero-between : tie.Need-cast-zero-between
+cast-zero-between c = search needs
 
 mul-zero-between : tie.Need-mul-zero-between
 mul-zero-between c = search needs
@@ -46,10 +49,13 @@ zero-between-requires c κs = search needs
 
 returns-4 : tie.Need-returns-4
 returns-4 c =
-    not-zero _ _ _ (sym (c .before .before .before .before .before .before .before .kind-due .ensures) ∙ not-false _ (c .before .before .before .before .before .before .if1 .left))
-    (sym (c .before .before .before .before .before .used-due .ensures) ∙ not-false _ (c .before .before .before .before .if2 .left))
-    (sym (c .before .before .before .ascending .ensures) ∙ not-false _ (c .before .before .if3 .left)) _
-    (c .before .before .before .before .before .before .before .before .byte-at .ensures)
+    let read = c .before .before in
+    let order = read .before in
+    let slots = order .before .before in
+    let kind = slots .before .before in
+    not-zero _ _ (sym (kind .before .kind-due .ensures) ∙ not-false _ (kind .if1 .left))
+    (sym (slots .before .used-due .ensures) ∙ not-false _ (slots .if2 .left))
+    (sym (order .before .ascending .ensures) ∙ not-false _ (order .if3 .left)) _ (read .used .ensures)
     (sym (c .before .zero-between .ensures) ∙ not-true _ (c .if4 .taken))
 
 first-due-requires : tie.Need-first-due-requires
@@ -57,24 +63,28 @@ first-due-requires c κs = search needs
 
 returns-5 : tie.Need-returns-5
 returns-5 c =
-    last-test _ _ _ (sym (c .before .before .before .before .before .before .before .before .kind-due .ensures) ∙ not-false _ (c .before .before .before .before .before .before .before .if1 .left))
-    (sym (c .before .before .before .before .before .before .used-due .ensures) ∙ not-false _ (c .before .before .before .before .before .if2 .left))
-    (sym (c .before .before .before .before .ascending .ensures) ∙ not-false _ (c .before .before .before .if3 .left)) _
-    (c .before .before .before .before .before .before .before .before .before .byte-at .ensures)
-    (sym (c .before .before .zero-between .ensures) ∙ not-false _ (c .before .if4 .left)) _ (c .first-due .ensures)
+    let zero = c .before in
+    let read = zero .before .before in
+    let order = read .before in
+    let slots = order .before .before in
+    let kind = slots .before .before in
+    last-test _ _ (sym (kind .before .kind-due .ensures) ∙ not-false _ (kind .if1 .left))
+    (sym (slots .before .used-due .ensures) ∙ not-false _ (slots .if2 .left))
+    (sym (order .before .ascending .ensures) ∙ not-false _ (order .if3 .left)) _ (read .used .ensures)
+    (sym (zero .before .zero-between .ensures) ∙ not-false _ (zero .if4 .left)) _ (c .first-due .ensures)
 
 pub well-formed-spec : {M : Type 1} → statement M
 well-formed-spec =
     tie.close
     (tie.spec
-    byte-at-requires
-    cast-used
     kind-due-requires
     returns
     used-due-requires
     returns-2
     ascending-requires
     returns-3
+    used-requires
+    cast-zero-between
     mul-zero-between
     add-zero-between
     zero-between-requires

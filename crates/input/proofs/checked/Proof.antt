@@ -34,36 +34,51 @@ slice-aggregate-take-apart-2 : tie.Need-slice-aggregate-take-apart-2
 slice-aggregate-take-apart-2 c = search needs
 
 take-apart-requires : tie.Need-take-apart-requires
-take-apart-requires c κs = (
-  simp (length-take, length-drop) (omega arith),
-  (at-most-sixteen _ _ (c .before .before .before .before .before .before .pre) (c .before .before .before .behind-memory .ensures .1), (refl, refl)),
-)
+take-apart-requires c κs =
+    let start = c .before .before .before in
+    let few = at-most-sixteen _ _ (start .before .before .before .pre) (start .behind-memory .ensures .1) in
+    (simp (length-take, length-drop) (omega arith), (few, (refl, refl)))
 
 mul-list : tie.Need-mul-list
 mul-list c = search needs
 
 array-share-prefix-list : tie.Need-array-share-prefix-list
-array-share-prefix-list c = omega (arith, at-most-sixteen _ _ (c .before .before .before .before .before .before .before .before .before .pre) (c .before .before .before .before .before .before .behind-memory .ensures .1), c .before .before .take-apart .ensures .1 .0)
+array-share-prefix-list c =
+    let apart = c .before .before in
+    let start = apart .before .before .before .before in
+    omega (arith, at-most-sixteen _ _ (start .before .before .before .pre) (start .behind-memory .ensures .1), apart .take-apart .ensures .1 .0)
 
 slice-aggregate-ask : tie.Need-slice-aggregate-ask
 slice-aggregate-ask c =
-    sym (length-take-le _ _ (omega (arith, at-most-sixteen _ _ (c .before .before .before .before .before .before .before .before .before .before .pre) (c .before .before .before .before .before .before .before .behind-memory .ensures .1), c .before .before .before .take-apart .ensures .1 .0)))
+    let apart = c .before .before .before in
+    let start = apart .before .before .before .before in
+    let few = at-most-sixteen _ _ (start .before .before .before .pre) (start .behind-memory .ensures .1) in
+    sym (length-take-le _ _ (omega (arith, few, apart .take-apart .ensures .1 .0)))
 
 array-share-prefix-marks : tie.Need-array-share-prefix-marks
-array-share-prefix-marks c = omega (arith, at-most-sixteen _ _ (c .before .before .before .before .before .before .before .before .before .before .pre) (c .before .before .before .before .before .before .before .behind-memory .ensures .1), c .before .before .before .take-apart .ensures .0 .0)
+array-share-prefix-marks c =
+    let apart = c .before .before .before in
+    let start = apart .before .before .before .before in
+    omega (arith, at-most-sixteen _ _ (start .before .before .before .pre) (start .behind-memory .ensures .1), apart .take-apart .ensures .0 .0)
 
 slice-aggregate-ask-2 : tie.Need-slice-aggregate-ask-2
 slice-aggregate-ask-2 c =
-    sym (length-take-le _ _ (omega (arith, at-most-sixteen _ _ (c .before .before .before .before .before .before .before .before .before .before .before .pre) (c .before .before .before .before .before .before .before .before .behind-memory .ensures .1), c .before .before .before .before .take-apart .ensures .0 .0)))
+    let apart = c .before .before .before .before in
+    let start = apart .before .before .before .before in
+    let few = at-most-sixteen _ _ (start .before .before .before .pre) (start .behind-memory .ensures .1) in
+    sym (length-take-le _ _ (omega (arith, few, apart .take-apart .ensures .0 .0)))
 
 ask-requires : tie.Need-ask-requires
-ask-requires c κs = omega (arith, form-facts _ (c .before .before .before .before .before .before .before .before .before .before .before .pre) .remembered)
+ask-requires c κs =
+    let start = c .before .before .before .before .before .before .before .before in omega (arith, form-facts _ (start .before .before .before .pre) .remembered)
 
 returns : tie.Need-returns
 returns c =
-    let s = c .before .before .before .before .before .before .before .before .before .before .before .before in
-    let a = c .before .before .before .before .before .take-apart .ensures in
-    told-input (s .args .input .now) _ _ _ _ (s .pre) (c .before .before .before .before .before .before .before .before .before .behind-memory .ensures .0) refl (a .1 .1) (a .0 .1) _ (c .ask .ensures)
+    let apart = c .before .before .before .before .before in
+    let start = apart .before .before .before .before in
+    let s = start .before .before .before in
+    let a = apart .take-apart .ensures in
+    told-input (s .args .input .now) _ _ _ _ (s .pre) (start .behind-memory .ensures .0) refl (a .1 .1) (a .0 .1) _ (c .ask .ensures)
 
 pub checked-spec : {M : Type 1} → statement M
 checked-spec =

@@ -6,13 +6,13 @@ use native.Mathlib.Omega.{arith}
 use lib.ListN.{length, getD, take, drop, length-set}
 use lib.Seq.{take-all}
 use borrow.Author.Needs.{needs}
-use Rattle.layout.specs.Bytes.{values}
+use Rattle.layout.specs.Bytes.{values, bytesAt}
 use Rattle.layout.proofs.Values.{part-copied, filled}
 use Rattle.layout.proofs.bytes32.Statement.{statement}
 use Rattle.layout.proofs.bytes32.Tie as tie
 
 abbrev Inv-loop : tie.InvT-loop
-Inv-loop b at out₀ k₀ out k = (k ≤ 32) × (length out ≡ 32) × (take k out ≡ values (λ i. getD b (at + i) 0) 0 k)
+Inv-loop b at out₀ k₀ out k = (k ≤ 32) × (length out ≡ 32) × (take k out ≡ bytesAt b at k)
 
 abbrev μ-loop : tie.MeasureT-loop
 μ-loop b at out₀ k₀ out k = 32 - k

@@ -1,6 +1,5 @@
 -- Each way to end, by its constructor.
-use native.Mathlib.Omega.{arith}
-use Rattle.lookup.proofs.Ends.{wrong-hash, malformed, here-long, here-last, nowhere-long, nowhere-last, here-slot}
+use Rattle.lookup.proofs.Ends.{wrong-hash, malformed, here-long, here-last, nowhere-long, nowhere-last}
 use borrow.Author.Needs.{needs}
 use Rattle.lookup.proofs.ended.Statement.{statement}
 use Rattle.lookup.proofs.ended.Tie as tie
@@ -29,20 +28,14 @@ refused-requires-3 c κs = search needs
 returns : tie.Need-returns
 returns c = here-long _ _ _ (c .before .before .before .e .given .1) (c .before .if1 .taken) (c .refused3 .ensures)
 
-mul-bytes32 : tie.Need-mul-bytes32
-mul-bytes32 c = omega (arith, here-slot (c .before .before .e .given .1) (c .before .before .before .before .before .pre .1))
-
-add-bytes32 : tie.Need-add-bytes32
-add-bytes32 c = omega (arith, here-slot (c .before .before .e .given .1) (c .before .before .before .before .before .pre .1))
-
-bytes32-requires : tie.Need-bytes32-requires
-bytes32-requires c κs = omega (arith, here-slot (c .before .before .e .given .1) (c .before .before .before .before .before .pre .1))
+value-requires : tie.Need-value-requires
+value-requires c κs = search needs
 
 enum-told-3 : tie.Need-enum-told-3
 enum-told-3 c = search needs
 
-add-t17 : tie.Need-add-t17
-add-t17 c = search needs
+add-t15 : tie.Need-add-t15
+add-t15 c = search needs
 
 refused-requires-4 : tie.Need-refused-requires-4
 refused-requires-4 c κs = search needs
@@ -57,7 +50,7 @@ returns-4 : tie.Need-returns-4
 returns-4 c = malformed _ _ _ (c .before .enum-told2 .given .1) (c .refused2 .ensures)
 
 returns-5 : tie.Need-returns-5
-returns-5 c = here-last _ _ _ (c .before .before .before .e .given .1) (c .before .if1 .left) (c .bytes32 .ensures)
+returns-5 c = here-last _ _ _ (c .before .before .before .e .given .1) (c .before .if1 .left) (c .value .ensures)
 
 returns-6 : tie.Need-returns-6
 returns-6 c = nowhere-last _ _ _ (c .before .enum-told3 .given .1) (c .if2 .left)
@@ -74,11 +67,9 @@ ended-spec =
     add-t10
     refused-requires-3
     returns
-    mul-bytes32
-    add-bytes32
-    bytes32-requires
+    value-requires
     enum-told-3
-    add-t17
+    add-t15
     refused-requires-4
     returns-2
     returns-3

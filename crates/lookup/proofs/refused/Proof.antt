@@ -1,6 +1,6 @@
 -- The refusal, with zeros.
 use mathlib.Core.Path.{refl}
-use Rattle.lookup.proofs.Found.{none-handed}
+use Rattle.lookup.proofs.Ends.{none-handed}
 use Rattle.lookup.proofs.refused.Statement.{statement}
 use Rattle.lookup.proofs.refused.Tie as tie
 

@@ -22,17 +22,19 @@ returns c =
 
 write-requires : tie.Need-write-requires
 write-requires c κs =
-    (search needs, omega (arith, c .before .before .before .before .before .number .ensures .1 0, c .before .before .before .before .if1 .left))
+    let i = c .before .before .before .before in (search needs, omega (arith, i .before .number .ensures .1 0, i .if1 .left))
 
 same-length : tie.Need-same-length
 same-length c = search needs
 
 returns-2 : tie.Need-returns-2
 returns-2 c =
-    let a = c .before .before .before .before .before .before .before .before .before .before .before .before .before .args in
-    let n = c .before .before .before .before .before .before .before .before .number in
-    let r = room (a .t1) (n .result) (n .ensures .1 (a .t1 .users)) (a .out .now) (c .before .before .before .before .before .before .before .if1 .left) in
-    (sym (r .0), rw (r .1) (c .before .before .write .ensures (a .t1 .users)))
+    let w = c .before .before in
+    let i = w .before .before .before .before .before in
+    let k = i .before in
+    let a = k .before .before .before .before .before .args in
+    let r = room (a .t1) (k .number .result) (k .number .ensures .1 (a .t1 .users)) (a .out .now) (i .if1 .left) in
+    (sym (r .0), rw (r .1) (w .write .ensures (a .t1 .users)))
 
 pub list-spec : {M : Type 1} → statement M
 list-spec =

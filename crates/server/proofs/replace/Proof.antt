@@ -1,13 +1,14 @@
 -- A copy into the part from the owner's place on puts the record there and keeps what is before and behind it.
 -- There is no loop.
-use Prim.Native.Nat.{ℕ, _-_, _*_}
-use mathlib.Core.List.{List}
-use mathlib.Core.Path.{ap}
+use Prim.Native.Nat.{_-_, _*_}
+use mathlib.Core.Path.{_≡_}
 use native.Mathlib.Omega.{arith}
-use borrow.Author.Needs.{needs}
+use lib.ListN.{length, take}
+use lib.Seq.{take-all}
 use Rattle.server.proofs.Slots.{copied}
-use Rattle.server.proofs.replace.Tie as tie
+use borrow.Author.Needs.{needs}
 use Rattle.server.proofs.replace.Statement.{statement}
+use Rattle.server.proofs.replace.Tie as tie
 
 mul-at : tie.Need-mul-at
 mul-at c = search needs
@@ -15,23 +16,49 @@ mul-at c = search needs
 sub-copy : tie.Need-sub-copy
 sub-copy c = search needs
 
-part-records-start : tie.Need-part-records-start
-part-records-start c = search needs
+part-copy-start : tie.Need-part-copy-start
+part-copy-start c = search needs
 
-part-records-end : tie.Need-part-records-end
-part-records-end c = omega (arith, c .before .before .pre .0)
+part-copy-end : tie.Need-part-copy-end
+part-copy-end c = search needs
+
+sub-copy-2 : tie.Need-sub-copy-2
+sub-copy-2 c = search needs
+
+part-copy-start-2 : tie.Need-part-copy-start-2
+part-copy-start-2 c = search needs
+
+part-copy-end-2 : tie.Need-part-copy-end-2
+part-copy-end-2 c = search needs
 
 copy-requires : tie.Need-copy-requires
 copy-requires c κs = search needs
 
+same-length : tie.Need-same-length
+same-length c = search needs
+
 returns : tie.Need-returns
 returns c =
-    let a = c .before .before .before .before .before .args in
-    let p = c .before .before .before .before .before .pre in
-    let at = 98 * a .owner in
-    let e = copied (a .x .now) (a .server .records) _ at (1568 - at) (omega (arith, p)) (omega (arith, p)) (c .before .copy .ensures .1) in
-    ap (λ (r : List ℕ). record { users = a .server .users; records = r }) (rw (p .1) at e)
+    let k = c .before .before in
+    let s = k .before .before .before .before .before in
+    let x = s .args .x .now in
+    let r = s .args .records .now in
+    let at = 98 * s .args .owner in
+    let whole : take 98 x ≡ x = take-all 98 x (omega (arith, s .pre .1)) in
+    let e = copied x r _ at (length r - at) (omega (arith, s .pre)) (omega (arith, s .pre)) (rw whole at (k .copy .ensures .1)) in
+    rw (s .pre .1) at e
 
 pub replace-spec : {M : Type 1} → statement M
 replace-spec =
-    tie.close (tie.spec mul-at sub-copy part-records-start part-records-end copy-requires returns)
+    tie.close
+    (tie.spec
+    mul-at
+    sub-copy
+    part-copy-start
+    part-copy-end
+    sub-copy-2
+    part-copy-start-2
+    part-copy-end-2
+    copy-requires
+    same-length
+    returns)

@@ -16,23 +16,33 @@ returns-2 c = not-handled _ _ _ (c .before .if1 .left) (c .if2 .taken)
 not-above-requires : tie.Need-not-above-requires
 not-above-requires c κs = search needs
 
-returns-3 : tie.Need-returns-3
-returns-3 c =
-    not-ascending _ _ _ (c .before .before .before .if1 .left) (c .before .before .if2 .left) _ (c .before .not-above .ensures) (c .if3 .taken)
-
 blocks-requires : tie.Need-blocks-requires
 blocks-requires c κs = search needs
 
-mul-if4 : tie.Need-mul-if4
-mul-if4 c = search needs
+mul-whole : tie.Need-mul-whole
+mul-whole c = search needs
+
+returns-3 : tie.Need-returns-3
+returns-3 c =
+    let v = c .before .before in
+    let h = v .before in
+    not-ascending _ _ _ (h .before .if1 .left) (h .if2 .left) _ (v .not-above .ensures) (c .if3 .taken)
 
 returns-4 : tie.Need-returns-4
 returns-4 c =
-    no-room _ _ _ (c .before .before .before .before .before .if1 .left) (c .before .before .before .before .if2 .left) _ (c .before .before .before .not-above .ensures) (c .before .before .if3 .left) _ (c .before .blocks2 .ensures .0) (c .if4 .taken)
+    let a = c .before in
+    let b = a .before in
+    let v = b .before in
+    let h = v .before in
+    no-room _ _ _ (h .before .if1 .left) (h .if2 .left) _ (v .not-above .ensures) (a .if3 .left) _ (b .blocks2 .ensures .0) (c .if4 .taken)
 
 returns-5 : tie.Need-returns-5
 returns-5 c =
-    admitted _ _ _ (c .before .before .before .before .before .if1 .left) (c .before .before .before .before .if2 .left) _ (c .before .before .before .not-above .ensures) (c .before .before .if3 .left) _ (c .before .blocks2 .ensures .0) (c .if4 .left)
+    let a = c .before in
+    let b = a .before in
+    let v = b .before in
+    let h = v .before in
+    admitted _ _ _ (h .before .if1 .left) (h .if2 .left) _ (v .not-above .ensures) (a .if3 .left) _ (b .blocks2 .ensures .0) (c .if4 .left)
 
 pub admit-spec : {M : Type 1} → statement M
 admit-spec =
@@ -42,8 +52,8 @@ admit-spec =
     mul-if2
     returns-2
     not-above-requires
-    returns-3
     blocks-requires
-    mul-if4
+    mul-whole
+    returns-3
     returns-4
     returns-5)

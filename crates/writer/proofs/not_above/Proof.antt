@@ -41,9 +41,10 @@ shared-slice-read-if2-2 c = omega arith
 
 returns-2 : tie.Need-returns-2 Inv-loop μ-loop
 returns-2 c =
+    let l = c .before .before .before .before .loop in
     sym
-    (find-at _ 0 _ _ (omega arith) (omega arith) (λ m a l. ap not (c .before .before .before .before .loop .inv .2 m l))
-    (ap not (not-above _ _ (c .before .before .before .before .loop .inv .0) (c .if2 .taken))))
+    (find-at _ 0 _ _ (omega arith) (omega arith) (λ m a b. ap not (l .inv .2 m b))
+    (ap not (not-above _ _ (l .inv .0) (c .if2 .taken))))
 
 add-i : tie.Need-add-i Inv-loop μ-loop
 add-i c = omega arith
@@ -53,7 +54,8 @@ loop-less c = omega arith
 
 loop-again : tie.Need-loop-again Inv-loop μ-loop
 loop-again c =
-    (omega arith, omega arith, below-more _ _ (c .before .before .before .before .loop .inv .2) (is-above _ _ (c .before .before .before .before .loop .inv .0) (c .if2 .left)))
+    let l = c .before .before .before .before .loop in
+    (omega arith, omega arith, below-more _ _ (l .inv .2) (is-above _ _ (l .inv .0) (c .if2 .left)))
 
 returns-3 : tie.Need-returns-3 Inv-loop μ-loop
 returns-3 c = sym (find-none _ 0 _ (λ m a l. ap not (c .before .loop .inv .2 m (omega arith))) ∙ omega arith)

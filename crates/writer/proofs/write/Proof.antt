@@ -28,7 +28,12 @@ wide-requires c κs = search needs
 
 leaves-requires : tie.Need-leaves-requires
 leaves-requires c κs =
-    leaves-ask _ _ _ (admitted-by (c .before .before .before .before .before .before .before .before .args .numbers .now) (c .before .before .before .before .before .before .before .before .args .handles .now) (c .before .before .before .before .before .before .before .before .args .out .now) _ (c .before .before .before .before .admit .ensures) (c .before .before .enum-told .given .1)) _ (c .before .wide .ensures .0)
+    let w = c .before in
+    let t = w .before in
+    let m = t .before .before in
+    let a = m .before .before .before .before .args in
+    leaves-ask _ _ _ (admitted-by (a .numbers .now) (a .handles .now) (a .out .now) _ (m .admit .ensures) (t .enum-told .given .1)) _
+    (w .wide .ensures .0)
 
 same-length : tie.Need-same-length
 same-length c = search needs
@@ -36,19 +41,29 @@ same-length c = search needs
 returns-2 : tie.Need-returns-2
 unfolding files
 returns-2 c =
-    let a = c .before .before .before .before .before .before .before .before .before .before .before .before .args in
-    let d = (admitted-by (c .before .before .before .before .before .before .before .before .before .before .before .before .args .numbers .now) (c .before .before .before .before .before .before .before .before .before .before .before .before .args .handles .now) (c .before .before .before .before .before .before .before .before .before .before .before .before .args .out .now) _ (c .before .before .before .before .before .before .before .before .admit .ensures) (c .before .before .before .before .before .before .enum-told .given .1)) in
-    let w = c .before .before .before .before .before .wide .ensures .0 in
-    writes-all _ _ _ _ (c .before .before .before .before .before .before .before .before .admit .ensures) (c .before .before .before .before .before .before .enum-told .given .1) _ _ (one-leaf _ (d .few) _ w (c .if1 .taken) .0)
-    (leaves-alone (files (a .numbers .now) (a .handles .now)) (files-sized (a .numbers .now) (a .handles .now) (d .handled)) (d .few) (a .out .now) _ w _
-    (c .if1 .taken) (c .before .before .before .leaves .ensures))
+    let r = c .before .before .before in
+    let w = r .before .before in
+    let t = w .before in
+    let m = t .before .before in
+    let a = m .before .before .before .before .args in
+    let d = admitted-by (a .numbers .now) (a .handles .now) (a .out .now) _ (m .admit .ensures) (t .enum-told .given .1) in
+    writes-all _ _ _ _ (m .admit .ensures) (t .enum-told .given .1) _ _ (one-leaf _ (d .few) _ (w .wide .ensures .0) (c .if1 .taken) .0)
+    (leaves-alone (files (a .numbers .now) (a .handles .now)) (files-sized (a .numbers .now) (a .handles .now) (d .handled)) (d .few)
+    (a .out .now) _ (w .wide .ensures .0) _ (c .if1 .taken) (r .leaves .ensures))
 
 wide-requires-2 : tie.Need-wide-requires-2
 wide-requires-2 c κs = search needs
 
 inner-requires : tie.Need-inner-requires
 inner-requires c κs =
-    fours-ask _ _ _ (admitted-by (c .before .before .before .before .before .before .before .before .before .before .before .before .before .before .args .numbers .now) (c .before .before .before .before .before .before .before .before .before .before .before .before .before .before .args .handles .now) (c .before .before .before .before .before .before .before .before .before .before .before .before .before .before .args .out .now) _ (c .before .before .before .before .before .before .before .before .before .before .admit .ensures) (c .before .before .before .before .before .before .before .before .enum-told .given .1)) _ (c .before .before .before .before .before .before .before .wide .ensures .0) (c .before .before .if1 .left) _ (c .before .wide2 .ensures .0) _ (c .before .before .before .before .before .leaves .kept .1 .1 .1 .0)
+    let i = c .before .before in
+    let r = i .before .before .before in
+    let w = r .before .before in
+    let t = w .before in
+    let m = t .before .before in
+    let a = m .before .before .before .before .args in
+    fours-ask _ _ _ (admitted-by (a .numbers .now) (a .handles .now) (a .out .now) _ (m .admit .ensures) (t .enum-told .given .1)) _
+    (w .wide .ensures .0) (i .if1 .left) _ (c .before .wide2 .ensures .0) _ (r .leaves .kept .1 .1 .1 .0)
 
 add-t15 : tie.Need-add-t15
 add-t15 c = search needs
@@ -59,17 +74,33 @@ same-length-2 c = search needs
 returns-3 : tie.Need-returns-3
 unfolding files
 returns-3 c =
-    let a = c .before .before .before .before .before .before .before .before .before .before .before .before .before .before .before .before .before .before .args in
-    let d = (admitted-by (c .before .before .before .before .before .before .before .before .before .before .before .before .before .before .before .before .before .before .args .numbers .now) (c .before .before .before .before .before .before .before .before .before .before .before .before .before .before .before .before .before .before .args .handles .now) (c .before .before .before .before .before .before .before .before .before .before .before .before .before .before .before .before .before .before .args .out .now) _ (c .before .before .before .before .before .before .before .before .before .before .before .before .before .before .admit .ensures) (c .before .before .before .before .before .before .before .before .before .before .before .before .enum-told .given .1)) in
-    let w = c .before .before .before .before .before .before .before .before .before .before .before .wide .ensures .0 in
-    writes-all _ _ _ _ (c .before .before .before .before .before .before .before .before .before .before .before .before .before .before .admit .ensures) (c .before .before .before .before .before .before .before .before .before .before .before .before .enum-told .given .1) _ _
-    (one-four _ (d .few) _ w (c .before .before .before .before .before .before .if1 .left) _ (c .before .before .before .before .before .wide2 .ensures .0) (c .if2 .taken) .0)
-    (fours-last (files (a .numbers .now) (a .handles .now)) (files-sized (a .numbers .now) (a .handles .now) (d .handled)) (d .few) (a .out .now) _ w
-    (c .before .before .before .before .before .before .if1 .left) _ (c .before .before .before .before .before .before .before .before .before .leaves .ensures) _ (c .before .before .before .before .before .wide2 .ensures .0) _ (c .if2 .taken) (c .before .before .before .inner .ensures))
+    let f = c .before .before .before in
+    let e = f .before .before in
+    let i = e .before in
+    let r = i .before .before .before in
+    let w = r .before .before in
+    let t = w .before in
+    let m = t .before .before in
+    let a = m .before .before .before .before .args in
+    let d = admitted-by (a .numbers .now) (a .handles .now) (a .out .now) _ (m .admit .ensures) (t .enum-told .given .1) in
+    writes-all _ _ _ _ (m .admit .ensures) (t .enum-told .given .1) _ _
+    (one-four _ (d .few) _ (w .wide .ensures .0) (i .if1 .left) _ (e .wide2 .ensures .0) (c .if2 .taken) .0)
+    (fours-last (files (a .numbers .now) (a .handles .now)) (files-sized (a .numbers .now) (a .handles .now) (d .handled)) (d .few)
+    (a .out .now) _ (w .wide .ensures .0) (i .if1 .left) _ (r .leaves .ensures) _ (e .wide2 .ensures .0) _ (c .if2 .taken) (f .inner .ensures))
 
 inner-requires-2 : tie.Need-inner-requires-2
 inner-requires-2 c κs =
-    fives-ask _ _ _ (admitted-by (c .before .before .before .before .before .before .before .before .before .before .before .before .before .before .before .before .before .before .before .args .numbers .now) (c .before .before .before .before .before .before .before .before .before .before .before .before .before .before .before .before .before .before .before .args .handles .now) (c .before .before .before .before .before .before .before .before .before .before .before .before .before .before .before .before .before .before .before .args .out .now) _ (c .before .before .before .before .before .before .before .before .before .before .before .before .before .before .before .admit .ensures) (c .before .before .before .before .before .before .before .before .before .before .before .before .before .enum-told .given .1)) _ (c .before .before .before .before .before .before .before .before .before .before .before .before .wide .ensures .0) (c .before .before .before .before .before .before .before .if1 .left) _ (c .before .before .before .before .before .before .wide2 .ensures .0) (c .before .if2 .left) _ (c .before .before .before .before .inner .kept .1 .1 .1 .1 .0 ∙ c .before .before .before .before .before .before .before .before .before .before .leaves .kept .1 .1 .1 .0)
+    let f = c .before .before .before .before in
+    let e = f .before .before in
+    let i = e .before in
+    let r = i .before .before .before in
+    let w = r .before .before in
+    let t = w .before in
+    let m = t .before .before in
+    let a = m .before .before .before .before .args in
+    fives-ask _ _ _ (admitted-by (a .numbers .now) (a .handles .now) (a .out .now) _ (m .admit .ensures) (t .enum-told .given .1)) _
+    (w .wide .ensures .0) (i .if1 .left) _ (e .wide2 .ensures .0) (c .before .if2 .left) _
+    (f .inner .kept .1 .1 .1 .1 .0 ∙ r .leaves .kept .1 .1 .1 .0)
 
 add-t8 : tie.Need-add-t8
 add-t8 c = search needs
@@ -83,13 +114,21 @@ same-length-3 c = search needs
 returns-4 : tie.Need-returns-4
 unfolding files
 returns-4 c =
-    let a = c .before .before .before .before .before .before .before .before .before .before .before .before .before .before .before .before .before .before .before .before .before .before .args in
-    let d = (admitted-by (c .before .before .before .before .before .before .before .before .before .before .before .before .before .before .before .before .before .before .before .before .before .before .args .numbers .now) (c .before .before .before .before .before .before .before .before .before .before .before .before .before .before .before .before .before .before .before .before .before .before .args .handles .now) (c .before .before .before .before .before .before .before .before .before .before .before .before .before .before .before .before .before .before .before .before .before .before .args .out .now) _ (c .before .before .before .before .before .before .before .before .before .before .before .before .before .before .before .before .before .before .admit .ensures) (c .before .before .before .before .before .before .before .before .before .before .before .before .before .before .before .before .enum-told .given .1)) in
-    let w = c .before .before .before .before .before .before .before .before .before .before .before .before .before .before .before .wide .ensures .0 in
-    writes-all _ _ _ _ (c .before .before .before .before .before .before .before .before .before .before .before .before .before .before .before .before .before .before .admit .ensures) (c .before .before .before .before .before .before .before .before .before .before .before .before .before .before .before .before .enum-told .given .1) _ _
-    (one-five _ (d .few) _ w (c .before .before .before .before .before .before .before .before .before .before .if1 .left) _ (c .before .before .before .before .before .before .before .before .before .wide2 .ensures .0) (c .before .before .before .before .if2 .left) .0)
-    (fives-last (files (a .numbers .now) (a .handles .now)) (files-sized (a .numbers .now) (a .handles .now) (d .handled)) (d .few) (a .out .now) _ w
-    (c .before .before .before .before .before .before .before .before .before .before .if1 .left) _ (c .before .before .before .before .before .before .before .before .before .before .before .before .before .leaves .ensures) _ (c .before .before .before .before .before .before .before .before .before .wide2 .ensures .0) _ _ (c .before .before .before .before .if2 .left) (c .before .before .before .before .before .before .before .inner .ensures) (c .before .before .inner2 .ensures))
+    let v = c .before .before .before .before in
+    let f = v .before .before .before in
+    let e = f .before .before in
+    let i = e .before in
+    let r = i .before .before .before in
+    let w = r .before .before in
+    let t = w .before in
+    let m = t .before .before in
+    let a = m .before .before .before .before .args in
+    let d = admitted-by (a .numbers .now) (a .handles .now) (a .out .now) _ (m .admit .ensures) (t .enum-told .given .1) in
+    writes-all _ _ _ _ (m .admit .ensures) (t .enum-told .given .1) _ _
+    (one-five _ (d .few) _ (w .wide .ensures .0) (i .if1 .left) _ (e .wide2 .ensures .0) (v .if2 .left) .0)
+    (fives-last (files (a .numbers .now) (a .handles .now)) (files-sized (a .numbers .now) (a .handles .now) (d .handled)) (d .few)
+    (a .out .now) _ (w .wide .ensures .0) (i .if1 .left) _ (r .leaves .ensures) _ (e .wide2 .ensures .0) _ _ (v .if2 .left)
+    (f .inner .ensures) (c .before .before .inner2 .ensures))
 
 pub write-spec : {M : Type 1} → statement M
 write-spec =

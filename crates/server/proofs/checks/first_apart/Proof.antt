@@ -18,7 +18,8 @@ use Rattle.server.proofs.checks.first_apart.Statement.{statement}
 abbrev Inv-loop : tie.InvT-loop
 Inv-loop records owner new v₀ v =
     (v ≤ 16) ×
-    ((users : ℕ) (x : List ℕ) → owner ≡ ownerOf x → new ≡ fields x .counts → (k : ℕ) → k < v → follows (record { users = users; records = records }) x k ≡ true)
+    ((users : ℕ) (x : List ℕ) → owner ≡ ownerOf x → new ≡ fields x .counts → (k : ℕ) → k < v →
+    follows (record { users = users; records = records }) x k ≡ true)
 
 abbrev μ-loop : tie.MeasureT-loop
 μ-loop records owner new v₀ v = 16 - v
@@ -31,9 +32,13 @@ follows-requires c κs = search needs
 
 returns : tie.Need-returns Inv-loop μ-loop
 returns c = λ u x eo en.
-    let l = c .before .before .before .loop in
+    let k = c .before .before .before in
+    let l = k .loop in
+    let r = k .before .before .args .records .now in
     let f = sym (c .before .follows .ensures u x eo en) ∙ not-true _ (c .if1 .taken) in
-    sym (find-at (λ v. not (follows (record { users = u; records = c .before .before .before .before .before .args .records .now }) x v)) 0 16 (l .v) (omega arith) (search needs) (λ j a b. ap not (l .inv .1 u x eo en j b)) (ap not f))
+    sym
+    (find-at (λ v. not (follows (record { users = u; records = r }) x v)) 0 16 (l .v) (omega arith) (search needs)
+    (λ j a b. ap not (l .inv .1 u x eo en j b)) (ap not f))
 
 add-v : tie.Need-add-v Inv-loop μ-loop
 add-v c = search needs
@@ -48,9 +53,11 @@ loop-again c =
 
 returns-2 : tie.Need-returns-2 Inv-loop μ-loop
 returns-2 c = λ u x eo en.
-    let e : c .before .loop .v ≡ 16 = omega arith in
-    let f = rw e at (c .before .loop .inv .1 u x eo en) in
-    rw e (sym (find-none (λ v. not (follows (record { users = u; records = c .before .before .before .args .records .now }) x v)) 0 16 (λ j a b. ap not (f j b))))
+    let k = c .before in
+    let e : k .loop .v ≡ 16 = omega arith in
+    let f = rw e at (k .loop .inv .1 u x eo en) in
+    let r = k .before .before .args .records .now in
+    rw e (sym (find-none (λ v. not (follows (record { users = u; records = r }) x v)) 0 16 (λ j a b. ap not (f j b))))
 
 pub first-apart-spec : {M : Type 1} → statement M
 first-apart-spec =

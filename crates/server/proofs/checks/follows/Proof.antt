@@ -16,17 +16,21 @@ in-order-requires c κs = search needs
 
 returns : tie.Need-returns
 returns c = λ u x eo en.
-    let a = c .before .before .before .before .args in
-    let k = c .before .before .own-count .ensures in
+    let o = c .before .before in
+    let a = o .before .before .args in
+    let k = o .own-count .ensures in
     let i = rw (k, en) at (sym (c .before .in-order .ensures) ∙ not-true _ (c .if1 .taken)) in
     sym (follows-fields (record { users = u; records = a .records .now }) x (a .v) (search needs) (search needs) ∙ rw i)
 
 returns-2 : tie.Need-returns-2
 returns-2 c = λ u x eo en.
-    let a = c .before .before .before .before .before .args in
-    let k = c .before .before .before .own-count .ensures in
-    let i = rw (k, en) at (sym (c .before .before .in-order .ensures) ∙ not-false _ (c .before .if1 .left)) in
-    sym (follows-fields (record { users = u; records = a .records .now }) x (a .v) (search needs) (search needs) ∙ rw (i, eq-eqb (a .v) (owner x) (c .if2 .taken ∙ eo)))
+    let h = c .before .before in
+    let a = h .before .before .before .args in
+    let k = h .before .own-count .ensures in
+    let i = rw (k, en) at (sym (h .in-order .ensures) ∙ not-false _ (c .before .if1 .left)) in
+    sym
+    (follows-fields (record { users = u; records = a .records .now }) x (a .v) (search needs) (search needs) ∙
+    rw (i, eq-eqb (a .v) (owner x) (c .if2 .taken ∙ eo)))
 
 mul-result : tie.Need-mul-result
 mul-result c = search needs
@@ -36,10 +40,14 @@ array-read-result c = search needs
 
 returns-3 : tie.Need-returns-3
 returns-3 c = λ u x eo en.
-    let a = c .before .before .before .before .before .args in
-    let k = c .before .before .before .own-count .ensures in
-    let i = rw (k, en) at (sym (c .before .before .in-order .ensures) ∙ not-false _ (c .before .if1 .left)) in
-    rw (k, en) (sym (follows-fields (record { users = u; records = a .records .now }) x (a .v) (search needs) (search needs) ∙ rw (i, ne-eqb (a .v) (owner x) (λ e. c .if2 .left (e ∙ sym eo)))))
+    let h = c .before .before in
+    let a = h .before .before .before .args in
+    let k = h .before .own-count .ensures in
+    let i = rw (k, en) at (sym (h .in-order .ensures) ∙ not-false _ (c .before .if1 .left)) in
+    rw (k, en)
+    (sym
+    (follows-fields (record { users = u; records = a .records .now }) x (a .v) (search needs) (search needs) ∙
+    rw (i, ne-eqb (a .v) (owner x) (λ e. c .if2 .left (e ∙ sym eo)))))
 
 pub follows-spec : {M : Type 1} → statement M
 follows-spec =

@@ -13,7 +13,8 @@ use Rattle.server.proofs.listing.number.Tie as tie
 use Rattle.server.proofs.listing.number.Statement.{statement}
 
 abbrev Inv-loop : tie.InvT-loop
-Inv-loop records n₀ v₀ n v = (v ≤ 16) × (n ≤ v) × ((users : ℕ) → length (heldFrom (record { users = users; records = records }) 0 v) ≡ size * n)
+Inv-loop records n₀ v₀ n v =
+    (v ≤ 16) × (n ≤ v) × ((users : ℕ) → length (heldFrom (record { users = users; records = records }) 0 v) ≡ size * n)
 
 abbrev μ-loop : tie.MeasureT-loop
 μ-loop records n₀ v₀ n v = 16 - v
@@ -36,12 +37,23 @@ loop-less c = search needs
 
 loop-again : tie.Need-loop-again Inv-loop μ-loop
 loop-again c =
-    let a = c .before .before .before .before .before .args in
-    let l = c .before .before .before .loop in
+    let k = c .before .before .before in
+    let l = k .loop in
+    let r = k .before .before .args .records .now in
     let o = c .before .own-count .ensures in
     ⊎-elim
-    (λ w. (search needs, omega arith, λ u. rw (w .1) (number-more (record { users = u; records = a .records .now }) (l .v) (l .n) (search needs) (search needs) (λ z. w .0 .taken (o ∙ z)) (l .inv .2 u))))
-    (λ w. (search needs, omega arith, λ u. rw (w .1) (number-same (record { users = u; records = a .records .now }) (l .v) (l .n) (sym o ∙ w .0 .left) (l .inv .2 u))))
+    (λ w. (
+      search needs,
+      omega arith,
+      λ u. rw (w .1)
+          (number-more (record { users = u; records = r }) (l .v) (l .n) (search needs) (search needs) (λ z. w .0 .taken (o ∙ z)) (l .inv .2 u)),
+    ))
+    (λ w. (
+      search needs,
+      omega arith,
+      λ u. rw (w .1)
+          (number-same (record { users = u; records = r }) (l .v) (l .n) (sym o ∙ w .0 .left) (l .inv .2 u)),
+    ))
     (c .if1 .came)
 
 returns : tie.Need-returns Inv-loop μ-loop

@@ -26,8 +26,9 @@ loop-holds c = (omega arith, refl, refl, refl)
 
 write-one-requires : tie.Need-write-one-requires Inv-loop μ-loop
 write-one-requires c κs =
-    let l = c .before .before .loop in
-    let s : Server = record { users = 0; records = c .before .before .before .before .before .args .records .now } in
+    let k = c .before .before in
+    let l = k .loop in
+    let s : Server = record { users = 0; records = k .before .before .before .args .records .now } in
     ((search needs, search needs), omega (arith, held-within s (l .v) (search needs)))
 
 add-v : tie.Need-add-v Inv-loop μ-loop
@@ -38,20 +39,24 @@ loop-less c = search needs
 
 loop-again : tie.Need-loop-again Inv-loop μ-loop
 loop-again c =
-    let l = c .before .before .before .before .before .loop in
-    let s : Server = record { users = 0; records = c .before .before .before .before .before .before .before .before .args .records .now } in
-    let w = written-more s (l .v) (l .at) _ (l .out) (c .before .before .before .before .before .before .before .before .args .out .now) _ (l .inv .1) (c .before .before .write-one .ensures .0) (l .inv .2) (c .before .before .write-one .ensures .1) in
-    (search needs, w .0, w .1, c .before .before .write-one .kept .1 .1 .0 ∙ l .inv .3)
+    let o = c .before .before in
+    let k = o .before .before .before in
+    let l = k .loop in
+    let a = k .before .before .before .args in
+    let s : Server = record { users = 0; records = a .records .now } in
+    let e = o .write-one .ensures in
+    let w = written-more s (l .v) (l .at) _ (l .out) (a .out .now) _ (l .inv .1) (e .0) (l .inv .2) (e .1) in
+    (search needs, w .0, w .1, o .write-one .kept .1 .1 .0 ∙ l .inv .3)
 
 same-length : tie.Need-same-length Inv-loop μ-loop
 same-length c = c .before .loop .inv .3
 
 returns : tie.Need-returns Inv-loop μ-loop
 returns c = λ u.
-    let e : c .before .loop .v ≡ 16 = omega arith in
-    let w = c .before .loop .inv .2 in
-    let r = c .before .before .before .before .args .records .now in
-    rw (any-users u 0 r) (rw (c .before .loop .inv .1, e) at w)
+    let k = c .before in
+    let e : k .loop .v ≡ 16 = omega arith in
+    let r = k .before .before .before .args .records .now in
+    rw (any-users u 0 r) (rw (k .loop .inv .1, e) at (k .loop .inv .2))
 
 pub write-spec : {M : Type 1} → statement M
 write-spec =

@@ -51,9 +51,11 @@ part-copy-end-2 c = search needs
 
 copy-requires : tie.Need-copy-requires
 copy-requires c κs =
-    let a = c .before .before .before .before .before .before .args in
-    let n = c .before .before .before .own-count .ensures in
-    let e = length-held (record { users = 0; records = a .records .now }) (a .v) (search needs) (search needs) (λ z. c .before .before .if1 .left (n ∙ z)) in
+    let i = c .before .before in
+    let k = i .before in
+    let a = k .before .before .before .args in
+    let s : Server = record { users = 0; records = a .records .now } in
+    let e = length-held s (a .v) (search needs) (search needs) (λ z. i .if1 .left (k .own-count .ensures ∙ z)) in
     simp (length-take, length-drop) (omega (arith, e))
 
 add-result : tie.Need-add-result
@@ -64,15 +66,18 @@ same-length c = search needs
 
 returns-2 : tie.Need-returns-2
 returns-2 c =
-    let a = c .before .before .before .before .before .before .before .before .before .args in
-    let n = c .before .before .before .before .before .before .own-count .ensures in
+    let y = c .before .before in
+    let i = y .before .before .before in
+    let k = i .before in
+    let a = k .before .before .before .args in
     let s : Server = record { users = 0; records = a .records .now } in
-    let h : held s (a .v) ≡ slot s (a .v) = held-slot s (a .v) (λ z. c .before .before .before .before .before .if1 .left (n ∙ z)) in
+    let h : held s (a .v) ≡ slot s (a .v) = held-slot s (a .v) (λ z. i .if1 .left (k .own-count .ensures ∙ z)) in
     let l : length (slot s (a .v)) ≡ size = part-length size (a .records .now) (a .v) (omega arith) in
     let xs : List ℕ = take (98 * a .v + 98 - 98 * a .v) (drop (98 * a .v) (a .records .now)) in
     let p : 98 * a .v + 98 - 98 * a .v ≡ size = omega arith in
     let e : xs ≡ slot s (a .v) = rw p in
-    let w = copied xs (a .out .now) _ (a .at) (length (a .out .now) - a .at) (omega (arith, l, ap length h, ap length e)) (omega arith) (c .before .before .copy .ensures .1) in
+    let f = copied xs (a .out .now) _ (a .at) (length (a .out .now) - a .at) (omega (arith, l, ap length h, ap length e)) (omega arith) in
+    let w = f (y .copy .ensures .1) in
     (omega (arith, l, ap length h), rw h (rw (e, l) at w))
 
 pub write-one-spec : {M : Type 1} → statement M

@@ -4,7 +4,7 @@ use mathlib.Core.Path.{_≡_, refl, ap, _∙_}
 use native.Mathlib.Omega.{arith}
 use borrow.Author.Needs.{needs}
 use Rattle.sha256.specs.Sha256.{added, compressed}
-use Rattle.sha256.specs.Rolling.{Rolling}
+use Rattle.sha256.specs.Internal.Rolling.{Rolling}
 use Rattle.sha256.proofs.Queue.{loaded}
 use Rattle.sha256.proofs.block.compress.Statement.{statement}
 use Rattle.sha256.proofs.block.compress.Tie as tie

@@ -35,22 +35,34 @@ last-turn-requires-10 : tie.Need-last-turn-requires-10
 last-turn-requires-10 c κs = let p = c .before .before .before .before .before .before .before .before .before .pre in (p .0, (p .1, omega arith))
 
 last-turn-requires-11 : tie.Need-last-turn-requires-11
-last-turn-requires-11 c κs = let p = c .before .before .before .before .before .before .before .before .before .before .pre in (p .0, (p .1, omega arith))
+last-turn-requires-11 c κs =
+    let p = c .before .before .before .before .before .before .before .before .before .before .pre in
+    (p .0, (p .1, omega arith))
 
 last-turn-requires-12 : tie.Need-last-turn-requires-12
-last-turn-requires-12 c κs = let p = c .before .before .before .before .before .before .before .before .before .before .before .pre in (p .0, (p .1, omega arith))
+last-turn-requires-12 c κs =
+    let p = c .before .before .before .before .before .before .before .before .before .before .before .pre in
+    (p .0, (p .1, omega arith))
 
 last-turn-requires-13 : tie.Need-last-turn-requires-13
-last-turn-requires-13 c κs = let p = c .before .before .before .before .before .before .before .before .before .before .before .before .pre in (p .0, (p .1, omega arith))
+last-turn-requires-13 c κs =
+    let p = c .before .before .before .before .before .before .before .before .before .before .before .before .pre in
+    (p .0, (p .1, omega arith))
 
 last-turn-requires-14 : tie.Need-last-turn-requires-14
-last-turn-requires-14 c κs = let p = c .before .before .before .before .before .before .before .before .before .before .before .before .before .pre in (p .0, (p .1, omega arith))
+last-turn-requires-14 c κs =
+    let p = c .before .before .before .before .before .before .before .before .before .before .before .before .before .pre in
+    (p .0, (p .1, omega arith))
 
 last-turn-requires-15 : tie.Need-last-turn-requires-15
-last-turn-requires-15 c κs = let p = c .before .before .before .before .before .before .before .before .before .before .before .before .before .before .pre in (p .0, (p .1, omega arith))
+last-turn-requires-15 c κs =
+    let p = c .before .before .before .before .before .before .before .before .before .before .before .before .before .before .pre in
+    (p .0, (p .1, omega arith))
 
 last-turn-requires-16 : tie.Need-last-turn-requires-16
-last-turn-requires-16 c κs = let p = c .before .before .before .before .before .before .before .before .before .before .before .before .before .before .before .pre in (p .0, (p .1, omega arith))
+last-turn-requires-16 c κs =
+    let p = c .before .before .before .before .before .before .before .before .before .before .before .before .before .before .before .pre in
+    (p .0, (p .1, omega arith))
 
 returns : tie.Need-returns
 returns c = λ b z R.

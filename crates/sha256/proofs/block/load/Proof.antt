@@ -71,10 +71,12 @@ loop-less c = search needs
 loop-again : tie.Need-loop-again Inv-loop μ-loop
 unfolding four
 loop-again c =
-    let l = c .before .before .before .before .before .before in (
+    let p = c .before .before .before .before .before .before in
+    let l = p .loop in
+    let b = p .before .before .args .block .now in (
       omega arith,
-      length-set (l .loop .w) (l .loop .t) (c .join .result) ∙ l .loop .inv .1,
-      filled (λ u. four (l .before .before .args .block .now) (4 * u)) (l .loop .w) (l .loop .t) (c .join .result) (omega arith) (l .loop .inv .2) (c .join .ensures),
+      length-set (l .w) (l .t) (c .join .result) ∙ l .inv .1,
+      filled (λ u. four b (4 * u)) (l .w) (l .t) (c .join .result) (omega arith) (l .inv .2) (c .join .ensures),
     )
 
 returns : tie.Need-returns Inv-loop μ-loop

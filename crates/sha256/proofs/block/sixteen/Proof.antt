@@ -13,46 +13,82 @@ turn-requires-2 : tie.Need-turn-requires-2
 turn-requires-2 c κs = let p = c .before .before .before .pre in (p .0, (c .before .turn .ensures .0, (p .1 .1 .0, p .1 .1 .1, omega arith)))
 
 turn-requires-3 : tie.Need-turn-requires-3
-turn-requires-3 c κs = let p = c .before .before .before .before .before .pre in (p .0, (c .before .turn2 .ensures .0, (p .1 .1 .0, p .1 .1 .1, omega arith)))
+turn-requires-3 c κs =
+    let p = c .before .before .before .before .before .pre in
+    (p .0, (c .before .turn2 .ensures .0, (p .1 .1 .0, p .1 .1 .1, omega arith)))
 
 turn-requires-4 : tie.Need-turn-requires-4
-turn-requires-4 c κs = let p = c .before .before .before .before .before .before .before .pre in (p .0, (c .before .turn3 .ensures .0, (p .1 .1 .0, p .1 .1 .1, omega arith)))
+turn-requires-4 c κs =
+    let p = c .before .before .before .before .before .before .before .pre in
+    (p .0, (c .before .turn3 .ensures .0, (p .1 .1 .0, p .1 .1 .1, omega arith)))
 
 turn-requires-5 : tie.Need-turn-requires-5
-turn-requires-5 c κs = let p = c .before .before .before .before .before .before .before .before .before .pre in (p .0, (c .before .turn4 .ensures .0, (p .1 .1 .0, p .1 .1 .1, omega arith)))
+turn-requires-5 c κs =
+    let p = c .before .before .before .before .before .before .before .before .before .pre in
+    (p .0, (c .before .turn4 .ensures .0, (p .1 .1 .0, p .1 .1 .1, omega arith)))
 
 turn-requires-6 : tie.Need-turn-requires-6
-turn-requires-6 c κs = let p = c .before .before .before .before .before .before .before .before .before .before .before .pre in (p .0, (c .before .turn5 .ensures .0, (p .1 .1 .0, p .1 .1 .1, omega arith)))
+turn-requires-6 c κs =
+    let p = c .before .before .before .before .before .before .before .before .before .before .before .pre in
+    (p .0, (c .before .turn5 .ensures .0, (p .1 .1 .0, p .1 .1 .1, omega arith)))
 
 turn-requires-7 : tie.Need-turn-requires-7
-turn-requires-7 c κs = let p = c .before .before .before .before .before .before .before .before .before .before .before .before .before .pre in (p .0, (c .before .turn6 .ensures .0, (p .1 .1 .0, p .1 .1 .1, omega arith)))
+turn-requires-7 c κs =
+    let p = c .before .before .before .before .before .before .before .before .before .before .before .before .before .pre in
+    (p .0, (c .before .turn6 .ensures .0, (p .1 .1 .0, p .1 .1 .1, omega arith)))
 
 turn-requires-8 : tie.Need-turn-requires-8
-turn-requires-8 c κs = let p = c .before .before .before .before .before .before .before .before .before .before .before .before .before .before .before .pre in (p .0, (c .before .turn7 .ensures .0, (p .1 .1 .0, p .1 .1 .1, omega arith)))
+turn-requires-8 c κs =
+    let p = c .before .before .before .before .before .before .before .before .before .before .before .before .before .before .before .pre in
+    (p .0, (c .before .turn7 .ensures .0, (p .1 .1 .0, p .1 .1 .1, omega arith)))
 
 turn-requires-9 : tie.Need-turn-requires-9
-turn-requires-9 c κs = let p = c .before .before .before .before .before .before .before .before .before .before .before .before .before .before .before .before .before .pre in (p .0, (c .before .turn8 .ensures .0, (p .1 .1 .0, p .1 .1 .1, omega arith)))
+turn-requires-9 c κs =
+    let h = c .before .before .before .before .before .before .before .before .before .before .before .before .before .before .before .before in
+    let p = h .before .pre in
+    (p .0, (c .before .turn8 .ensures .0, (p .1 .1 .0, p .1 .1 .1, omega arith)))
 
 turn-requires-10 : tie.Need-turn-requires-10
-turn-requires-10 c κs = let p = c .before .before .before .before .before .before .before .before .before .before .before .before .before .before .before .before .before .before .before .pre in (p .0, (c .before .turn9 .ensures .0, (p .1 .1 .0, p .1 .1 .1, omega arith)))
+turn-requires-10 c κs =
+    let h = c .before .before .before .before .before .before .before .before .before .before .before .before .before .before .before .before in
+    let p = h .before .before .before .pre in
+    (p .0, (c .before .turn9 .ensures .0, (p .1 .1 .0, p .1 .1 .1, omega arith)))
 
 turn-requires-11 : tie.Need-turn-requires-11
-turn-requires-11 c κs = let p = c .before .before .before .before .before .before .before .before .before .before .before .before .before .before .before .before .before .before .before .before .before .pre in (p .0, (c .before .turn10 .ensures .0, (p .1 .1 .0, p .1 .1 .1, omega arith)))
+turn-requires-11 c κs =
+    let h = c .before .before .before .before .before .before .before .before .before .before .before .before .before .before .before .before in
+    let p = h .before .before .before .before .before .pre in
+    (p .0, (c .before .turn10 .ensures .0, (p .1 .1 .0, p .1 .1 .1, omega arith)))
 
 turn-requires-12 : tie.Need-turn-requires-12
-turn-requires-12 c κs = let p = c .before .before .before .before .before .before .before .before .before .before .before .before .before .before .before .before .before .before .before .before .before .before .before .pre in (p .0, (c .before .turn11 .ensures .0, (p .1 .1 .0, p .1 .1 .1, omega arith)))
+turn-requires-12 c κs =
+    let h = c .before .before .before .before .before .before .before .before .before .before .before .before .before .before .before .before in
+    let p = h .before .before .before .before .before .before .before .pre in
+    (p .0, (c .before .turn11 .ensures .0, (p .1 .1 .0, p .1 .1 .1, omega arith)))
 
 turn-requires-13 : tie.Need-turn-requires-13
-turn-requires-13 c κs = let p = c .before .before .before .before .before .before .before .before .before .before .before .before .before .before .before .before .before .before .before .before .before .before .before .before .before .pre in (p .0, (c .before .turn12 .ensures .0, (p .1 .1 .0, p .1 .1 .1, omega arith)))
+turn-requires-13 c κs =
+    let h = c .before .before .before .before .before .before .before .before .before .before .before .before .before .before .before .before in
+    let p = h .before .before .before .before .before .before .before .before .before .pre in
+    (p .0, (c .before .turn12 .ensures .0, (p .1 .1 .0, p .1 .1 .1, omega arith)))
 
 turn-requires-14 : tie.Need-turn-requires-14
-turn-requires-14 c κs = let p = c .before .before .before .before .before .before .before .before .before .before .before .before .before .before .before .before .before .before .before .before .before .before .before .before .before .before .before .pre in (p .0, (c .before .turn13 .ensures .0, (p .1 .1 .0, p .1 .1 .1, omega arith)))
+turn-requires-14 c κs =
+    let h = c .before .before .before .before .before .before .before .before .before .before .before .before .before .before .before .before in
+    let p = h .before .before .before .before .before .before .before .before .before .before .before .pre in
+    (p .0, (c .before .turn13 .ensures .0, (p .1 .1 .0, p .1 .1 .1, omega arith)))
 
 turn-requires-15 : tie.Need-turn-requires-15
-turn-requires-15 c κs = let p = c .before .before .before .before .before .before .before .before .before .before .before .before .before .before .before .before .before .before .before .before .before .before .before .before .before .before .before .before .before .pre in (p .0, (c .before .turn14 .ensures .0, (p .1 .1 .0, p .1 .1 .1, omega arith)))
+turn-requires-15 c κs =
+    let h = c .before .before .before .before .before .before .before .before .before .before .before .before .before .before .before .before in
+    let p = h .before .before .before .before .before .before .before .before .before .before .before .before .before .pre in
+    (p .0, (c .before .turn14 .ensures .0, (p .1 .1 .0, p .1 .1 .1, omega arith)))
 
 turn-requires-16 : tie.Need-turn-requires-16
-turn-requires-16 c κs = let p = c .before .before .before .before .before .before .before .before .before .before .before .before .before .before .before .before .before .before .before .before .before .before .before .before .before .before .before .before .before .before .before .pre in (p .0, (c .before .turn15 .ensures .0, (p .1 .1 .0, p .1 .1 .1, omega arith)))
+turn-requires-16 c κs =
+    let h = c .before .before .before .before .before .before .before .before .before .before .before .before .before .before .before .before in
+    let p = h .before .before .before .before .before .before .before .before .before .before .before .before .before .before .before .pre in
+    (p .0, (c .before .turn15 .ensures .0, (p .1 .1 .0, p .1 .1 .1, omega arith)))
 
 returns : tie.Need-returns
 returns c =

@@ -30,8 +30,10 @@ same-length c = search needs
 
 returns : tie.Need-returns
 returns c =
-    let a = c .before .before .before .before .before .before .before in
-    stored (a .args .out .now) (a .args .i) (a .args .x) (a .pre) (c .before .before .before .before .before .u32-bytes .ensures) (c .before .before .copy .ensures .1)
+    let copied = c .before .before in
+    let made = copied .before .before .before in
+    let a = made .before .before in
+    stored (a .args .out .now) (a .args .i) (a .args .x) (a .pre) (made .u32-bytes .ensures) (copied .copy .ensures .1)
 
 pub store-spec : {M : Type 1} → statement M
 store-spec =

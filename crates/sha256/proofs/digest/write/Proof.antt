@@ -33,18 +33,24 @@ same-length c = search needs
 
 returns : tie.Need-returns
 returns c =
-    written
-    (c .before .before .before .before .before .before .before .before .before .before .before .before .before .before .before .before .before .before .before .before .before .before .before .before .before .before .before .before .before .before .before .before .before .args .s)
-    (c .before .before .before .before .before .before .before .before .before .before .before .before .before .before .before .before .before .before .before .before .before .before .before .before .before .before .before .before .before .before .before .before .before .args .out .now)
-    (c .before .before .before .before .before .before .before .before .before .before .before .before .before .before .before .before .before .before .before .before .before .before .before .before .before .before .before .before .before .before .before .before .before .pre)
-    (c .before .before .before .before .before .before .before .before .before .before .before .before .before .before .before .before .before .before .before .before .before .before .before .before .before .before .before .before .before .before .store .ensures)
-    (c .before .before .before .before .before .before .before .before .before .before .before .before .before .before .before .before .before .before .before .before .before .before .before .before .before .before .store2 .ensures)
-    (c .before .before .before .before .before .before .before .before .before .before .before .before .before .before .before .before .before .before .before .before .before .before .store3 .ensures)
-    (c .before .before .before .before .before .before .before .before .before .before .before .before .before .before .before .before .before .before .store4 .ensures)
-    (c .before .before .before .before .before .before .before .before .before .before .before .before .before .before .store5 .ensures)
-    (c .before .before .before .before .before .before .before .before .before .before .store6 .ensures)
-    (c .before .before .before .before .before .before .store7 .ensures)
-    (c .before .before .store8 .ensures)
+    let c8 = c .before .before in
+    let c7 = c8 .before .before .before .before in
+    let c6 = c7 .before .before .before .before in
+    let c5 = c6 .before .before .before .before in
+    let c4 = c5 .before .before .before .before in
+    let c3 = c4 .before .before .before .before in
+    let c2 = c3 .before .before .before .before in
+    let c1 = c2 .before .before .before .before in
+    let a = c1 .before .before .before in
+    written (a .args .s) (a .args .out .now) (a .pre)
+    (c1 .store .ensures)
+    (c2 .store2 .ensures)
+    (c3 .store3 .ensures)
+    (c4 .store4 .ensures)
+    (c5 .store5 .ensures)
+    (c6 .store6 .ensures)
+    (c7 .store7 .ensures)
+    (c8 .store8 .ensures)
 
 pub write-spec : {M : Type 1} → statement M
 write-spec =

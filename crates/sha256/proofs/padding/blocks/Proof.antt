@@ -49,10 +49,15 @@ loop-less c = search needs
 
 loop-again : tie.Need-loop-again Inv-loop μ-loop
 unfolding hashed
-loop-again c = (search needs, search needs, next-block _ (c .before .before .before .loop .at) _ _ (c .before .before .before .loop .inv .1) (c .before .before .before .loop .inv .2) (c .compress .ensures))
+loop-again c =
+    let l = c .before .before .before .loop in
+    (search needs, search needs, next-block _ (l .at) _ _ (l .inv .1) (l .inv .2) (c .compress .ensures))
 
 returns : tie.Need-returns Inv-loop μ-loop
-returns c = let q : c .before .loop .at / 64 ≡ length (c .before .before .before .before .args .message .now) / 64 = omega arith in c .before .loop .inv .2 ∙ rw q
+returns c =
+    let l = c .before .loop in
+    let q : l .at / 64 ≡ length (c .before .before .before .before .args .message .now) / 64 = omega arith in
+    l .inv .2 ∙ rw q
 
 pub blocks-spec : {M : Type 1} → statement M
 blocks-spec =

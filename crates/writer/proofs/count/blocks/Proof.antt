@@ -18,7 +18,9 @@ add-result c = search needs
 
 returns-2 : tie.Need-returns-2
 returns-2 c =
-    one-four _ (c .before .before .before .before .pre) _ (c .before .before .before .wide .ensures .0) (c .before .before .if1 .left) _ (c .before .wide2 .ensures .0) (c .if2 .taken)
+    let l = c .before .before in
+    let w = l .before in
+    one-four _ (w .before .pre) _ (w .wide .ensures .0) (l .if1 .left) _ (c .before .wide2 .ensures .0) (c .if2 .taken)
 
 add-result-2 : tie.Need-add-result-2
 add-result-2 c = search needs
@@ -28,7 +30,9 @@ add-result-3 c = search needs
 
 returns-3 : tie.Need-returns-3
 returns-3 c =
-    one-five _ (c .before .before .before .before .pre) _ (c .before .before .before .wide .ensures .0) (c .before .before .if1 .left) _ (c .before .wide2 .ensures .0) (c .if2 .left)
+    let l = c .before .before in
+    let w = l .before in
+    one-five _ (w .before .pre) _ (w .wide .ensures .0) (l .if1 .left) _ (c .before .wide2 .ensures .0) (c .if2 .left)
 
 pub blocks-spec : {M : Type 1} → statement M
 blocks-spec =

@@ -7,20 +7,22 @@ use native.Mathlib.Omega.{arith}
 use lib.ListN.{length, take, drop}
 use borrow.Author.Count.{falls}
 use Rattle.itable.specs.Table.{row}
-use Rattle.writer.specs.Children.{children}
-use Rattle.writer.proofs.Rows.{children-sized, row-next, inner-is, inner-fits, lent-length, unwritten}
+use Rattle.writer.specs.Internal.Children.{children}
+use Rattle.writer.proofs.Rows.{children-sized, row-next, inner-is, lent-length, unwritten}
 use Rattle.writer.proofs.row.inner.Statement.{statement}
 use Rattle.writer.proofs.row.inner.Tie as tie
 
 abbrev Inv-loop : tie.InvT-loop
 Inv-loop kind from n w out₀ numbers₀ hashes₀ k₀ out numbers hashes k =
-    (k ≤ w) × (length numbers ≡ 16) × (length hashes ≡ 512) × (length out ≡ length out₀) × (out ≡ take (642 * (from + n)) out₀ ++ (row kind (children out₀ from n) 0 k ++ drop (642 * (from + n + k)) out₀))
+    (k ≤ w) × (length numbers ≡ 16) × (length hashes ≡ 512) × (length out ≡ length out₀) ×
+    (out ≡ take (642 * (from + n)) out₀ ++ (row kind (children out₀ from n) 0 k ++ drop (642 * (from + n + k)) out₀))
 
 abbrev μ-loop : tie.MeasureT-loop
 μ-loop kind from n w out₀ numbers₀ hashes₀ k₀ out numbers hashes k = w - k
 
 loop-holds : tie.Need-loop-holds Inv-loop μ-loop
-loop-holds c = (omega arith, refl, refl, refl, unwritten (c .before .args .kind) (c .before .args .from) (c .before .args .n) (c .before .args .out .now))
+loop-holds c =
+    let a = c .before .args in (omega arith, refl, refl, refl, unwritten (a .kind) (a .from) (a .n) (a .out .now))
 
 used-in-requires : tie.Need-used-in-requires Inv-loop μ-loop
 used-in-requires c κs = omega arith
@@ -101,36 +103,45 @@ part-fill-end-3 : tie.Need-part-fill-end-3 Inv-loop μ-loop
 part-fill-end-3 c = omega arith
 
 fill-requires : tie.Need-fill-requires Inv-loop μ-loop
-fill-requires c κs =
-    let r = c .before .before .before .before .before .before .before .read-back in
-    let f =
-    inner-fits (r .last .1 .1 .0) (r .last .1 .1 .1 .0) (c .before .before .before .before .before .before .before .before .before .before .before .before .used-in .result) (c .before .before .before .before .before .before .before .before .before .before .before .before .used-in .ensures .1)
-    (r .kept .1 .1 .0 ∙ c .before .before .before .before .before .before .before .before .before .before .before .before .before .before .loop .inv .1) (r .kept .1 .1 .1 .0 ∙ c .before .before .before .before .before .before .before .before .before .before .before .before .before .before .loop .inv .2) in
-    (f .0, f .1, lent-length (c .before .before .before .before .before .before .before .before .before .before .before .before .before .before .loop .out) (642 * (c .before .before .before .before .before .before .before .before .before .before .before .before .before .before .before .before .args .from + c .before .before .before .before .before .before .before .before .before .before .before .before .before .before .before .before .args .n + c .before .before .before .before .before .before .before .before .before .before .before .before .before .before .loop .k)) (omega arith))
+fill-requires c κs = tt
 
 add-k : tie.Need-add-k Inv-loop μ-loop
 add-k c = omega arith
 
 loop-less : tie.Need-loop-less Inv-loop μ-loop
-loop-less c = falls _ _ (c .before .before .before .before .before .before .before .before .before .before .before .before .before .before .before .before .loop-test .taken)
+loop-less c =
+    let b = c .before .before .before .before .before .before .before .before .before in
+    let t = b .before .before .before .before .before .before .before in falls _ _ (t .loop-test .taken)
 
 loop-again : tie.Need-loop-again Inv-loop μ-loop
 unfolding children
 loop-again c =
-    let a = c .before .before .before .before .before .before .before .before .before .before .before .before .before .before .before .before .before .before .before .args in
-    let k = c .before .before .before .before .before .before .before .before .before .before .before .before .before .before .before .before .before .loop .k in
+    let q = c .before .before .before .before .before .before .before .before .before .before in
+    let w = q .before .before .before .before .before in
+    let p = w .before .before in
+    let b = q .read-back in
+    let v = w .used-in in
+    let l = p .loop in
+    let a = p .before .before .args in
+    let at = 642 * (a .from + a .n + l .k) in
+    let numbers-long = b .kept .1 .1 .0 ∙ l .inv .1 in
+    let hashes-long = b .kept .1 .1 .1 .0 ∙ l .inv .2 in
     let r =
-    row-next (a .kind) (children (a .out .now) (a .from) (a .n)) (children-sized (a .out .now) (a .from) (a .n)) (a .out .now) _ _ (642 * (a .from + a .n))
-    k (642 * (a .from + a .n + k)) (642 * (a .from + a .n + (k + 1))) (omega arith) (omega arith) (omega arith) (omega arith) (c .before .before .before .before .before .before .before .before .before .before .before .before .before .before .before .before .before .loop .inv .3) (c .before .before .before .before .before .before .before .before .before .before .before .before .before .before .before .before .before .loop .inv .4)
-    (c .before .before .fill .ensures ∙ inner-is (a .kind) (a .from) (a .n) k (c .before .before .before .before .before .before .before .before .before .before .before .before .before .before .before .used-in .result) (a .out .now) (c .before .before .before .before .before .before .before .before .before .before .before .before .before .before .before .before .before .loop .out) _ _ _
-    (c .before .before .before .before .before .before .before .before .before .before .before .before .before .before .before .used-in .ensures .0) (c .before .before .before .before .before .before .before .before .before .before .before .before .before .before .before .used-in .ensures .1) (c .before .before .before .before .before .before .before .before .before .before .before .before .before .before .before .used-in .ensures .2) (omega arith) (omega arith) (c .before .before .before .before .before .before .before .before .before .before .before .before .before .before .before .before .before .loop .inv .4) (c .before .before .before .before .before .before .before .before .before .before .read-back .ensures)) in
-    (omega arith, c .before .before .before .before .before .before .before .before .before .before .read-back .kept .1 .1 .0 ∙ c .before .before .before .before .before .before .before .before .before .before .before .before .before .before .before .before .before .loop .inv .1, c .before .before .before .before .before .before .before .before .before .before .read-back .kept .1 .1 .1 .0 ∙ c .before .before .before .before .before .before .before .before .before .before .before .before .before .before .before .before .before .loop .inv .2, r .0, r .1)
+    row-next (a .kind) (children (a .out .now) (a .from) (a .n)) (children-sized (a .out .now) (a .from) (a .n)) (a .out .now) _ _
+    (642 * (a .from + a .n)) (l .k) at (642 * (a .from + a .n + (l .k + 1))) (omega arith) (omega arith) (omega arith) (omega arith)
+    (l .inv .3) (l .inv .4)
+    (c .before .before .fill .ensures .1 ∙
+    inner-is (a .kind) (a .from) (a .n) (l .k) (v .result) (a .out .now) (l .out) _ _ _ _ (v .ensures .0) (v .ensures .1) (v .ensures .2)
+    numbers-long hashes-long (lent-length (l .out) at (omega arith)) (omega arith) (l .inv .4) (b .ensures)) in
+    (omega arith, numbers-long, hashes-long, r .0, r .1)
 
 same-length : tie.Need-same-length Inv-loop μ-loop
 same-length c = omega arith
 
 returns : tie.Need-returns Inv-loop μ-loop
-returns c = let e : c .before .loop .k ≡ c .before .before .before .args .w = omega arith in rw e at (c .before .loop .inv .4)
+returns c =
+    let p = c .before in
+    let e : p .loop .k ≡ p .before .before .args .w = omega arith in rw e at (p .loop .inv .4)
 
 pub inner-spec : {M : Type 1} → statement M
 inner-spec =

@@ -7,7 +7,7 @@ use native.Mathlib.Omega.{arith}
 use lib.ListN.{length, drop}
 use borrow.Author.Count.{falls}
 use Rattle.itable.specs.Table.{files, row}
-use Rattle.writer.proofs.Rows.{files-sized, row-next, leaf-is}
+use Rattle.writer.proofs.Rows.{files-sized, row-next, leaf-is, lent-length}
 use Rattle.writer.proofs.row.leaves.Statement.{statement}
 use Rattle.writer.proofs.row.leaves.Tie as tie
 
@@ -77,30 +77,38 @@ part-fill-end-3 : tie.Need-part-fill-end-3 Inv-loop μ-loop
 part-fill-end-3 c = omega arith
 
 fill-requires : tie.Need-fill-requires Inv-loop μ-loop
-fill-requires c κs = omega arith
+fill-requires c κs = tt
 
 add-k : tie.Need-add-k Inv-loop μ-loop
 add-k c = omega arith
 
 loop-less : tie.Need-loop-less Inv-loop μ-loop
-loop-less c = falls _ _ (c .before .before .before .before .before .before .before .loop-test .taken)
+loop-less c = let t = c .before .before .before .before .before .before .before in falls _ _ (t .loop-test .taken)
 
 loop-again : tie.Need-loop-again Inv-loop μ-loop
 unfolding files
 loop-again c =
-    let a = c .before .before .before .before .before .before .before .before .before .before .before .before .args in
+    let w = c .before .before .before .before .before .before in
+    let p = w .before .before in
+    let v = w .used-in in
+    let l = p .loop in
+    let s = p .before .before .before .before in
+    let a = s .args in
     let r =
-    row-next 3 (files (a .numbers .now) (a .handles .now)) (files-sized (a .numbers .now) (a .handles .now) (c .before .before .before .before .before .before .before .before .before .before .before .before .pre .2)) (a .out .now) _ _ 0
-    (c .before .before .before .before .before .before .before .before .loop .k) (642 * c .before .before .before .before .before .before .before .before .loop .k) (642 * (c .before .before .before .before .before .before .before .before .loop .k + 1)) (omega arith) (omega arith) (omega arith) (omega arith) (c .before .before .before .before .before .before .before .before .loop .inv .2) (c .before .before .before .before .before .before .before .before .loop .inv .3)
-    (c .before .before .fill .ensures ∙ leaf-is (a .numbers .now) (a .handles .now) (c .before .before .before .before .before .before .before .before .loop .k) (c .before .before .before .before .before .before .used-in .result) (c .before .before .before .before .before .before .before .before .before .before .before .before .pre .2) (c .before .before .before .before .before .before .used-in .ensures .0) (c .before .before .before .before .before .before .used-in .ensures .1) (c .before .before .before .before .before .before .used-in .ensures .2)) in
-    (c .before .before .before .before .before .before .before .before .loop .inv .0, omega arith, r .0, r .1)
+    row-next 3 (files (a .numbers .now) (a .handles .now)) (files-sized (a .numbers .now) (a .handles .now) (s .pre .2)) (a .out .now) _ _ 0
+    (l .k) (642 * l .k) (642 * (l .k + 1)) (omega arith) (omega arith) (omega arith) (omega arith) (l .inv .2) (l .inv .3)
+    (c .before .before .fill .ensures .1 ∙
+    leaf-is (a .numbers .now) (a .handles .now) _ (l .k) (v .result) (s .pre .2) (v .ensures .0) (v .ensures .1) (v .ensures .2)
+    (lent-length (l .out) (642 * l .k) (omega arith))) in
+    (l .inv .0, omega arith, r .0, r .1)
 
 same-length : tie.Need-same-length Inv-loop μ-loop
 same-length c = omega arith
 
 returns : tie.Need-returns Inv-loop μ-loop
 returns c =
-    let e : c .before .loop .k ≡ c .before .before .before .before .before .args .l = omega arith in rw e at (c .before .loop .inv .3)
+    let p = c .before in
+    let e : p .loop .k ≡ p .before .before .before .before .args .l = omega arith in rw e at (p .loop .inv .3)
 
 pub leaves-spec : {M : Type 1} → statement M
 leaves-spec =

@@ -4,13 +4,14 @@ use Prim.Native.Nat.{_-_, _≤_}
 use mathlib.Core.Path.{_≡_}
 use native.Mathlib.Omega.{arith}
 use lib.ListN.{length}
-use Rattle.writer.specs.Children.{ReadBack}
+use Rattle.writer.specs.Internal.Children.{ReadBack}
 use Rattle.writer.proofs.Children.{read-next}
 use Rattle.writer.proofs.row.read_back.Statement.{statement}
 use Rattle.writer.proofs.row.read_back.Tie as tie
 
 abbrev Inv-loop : tie.InvT-loop
-Inv-loop blocks u numbers₀ hashes₀ j₀ numbers hashes j = (j ≤ u) × (length numbers ≡ 16) × (length hashes ≡ 512) × ReadBack blocks j numbers hashes
+Inv-loop blocks u numbers₀ hashes₀ j₀ numbers hashes j =
+    (j ≤ u) × (length numbers ≡ 16) × (length hashes ≡ 512) × ReadBack blocks j numbers hashes
 
 abbrev μ-loop : tie.MeasureT-loop
 μ-loop blocks u numbers₀ hashes₀ j₀ numbers hashes j = u - j
@@ -25,11 +26,20 @@ mul-a c = omega arith
 mul-b : tie.Need-mul-b Inv-loop μ-loop
 mul-b c = omega arith
 
-add-u64-at : tie.Need-add-u64-at Inv-loop μ-loop
-add-u64-at c = omega arith
+add-number : tie.Need-add-number Inv-loop μ-loop
+add-number c = omega arith
 
-u64-at-requires : tie.Need-u64-at-requires Inv-loop μ-loop
-u64-at-requires c κs = omega arith
+sub-number : tie.Need-sub-number Inv-loop μ-loop
+sub-number c = omega arith
+
+part-number-start : tie.Need-part-number-start Inv-loop μ-loop
+part-number-start c = omega arith
+
+part-number-end : tie.Need-part-number-end Inv-loop μ-loop
+part-number-end c = omega arith
+
+number-requires : tie.Need-number-requires Inv-loop μ-loop
+number-requires c κs = tt
 
 mul-numbers : tie.Need-mul-numbers Inv-loop μ-loop
 mul-numbers c = omega arith
@@ -72,10 +82,14 @@ loop-less c = omega arith
 
 loop-again : tie.Need-loop-again Inv-loop μ-loop
 loop-again c =
+    let n = c .before .before .before .before .before in
+    let t = n .before .before in
+    let l = t .before .loop in
+    let s = t .before .before .before .before .before in
     let r =
-    read-next _ _ _ _ _ (c .before .before .before .before .before .before .before .before .before .before .before .pre .0) (c .before .before .before .before .before .before .before .before .before .before .before .pre .1) (c .before .before .before .before .before .before .before .loop .inv .1) (c .before .before .before .before .before .before .before .loop .inv .2)
-    (c .before .before .before .before .before .before .loop-test .taken) (c .before .before .before .before .before .before .before .loop .inv .3) _ (c .before .before .before .before .before .u64-at .ensures) _ _
-    (c .before .before .sha256 .ensures) in (omega arith, r .0, r .1, r .2)
+    read-next _ _ _ _ _ (s .pre .0) (s .pre .1) (l .inv .1) (l .inv .2) (t .loop-test .taken) (l .inv .3) _ (n .number .ensures) _ _
+    (c .before .before .sha256 .ensures) in
+    (omega arith, r .0, r .1, r .2)
 
 same-length : tie.Need-same-length Inv-loop μ-loop
 same-length c = omega arith
@@ -85,8 +99,8 @@ same-length-2 c = omega arith
 
 returns : tie.Need-returns Inv-loop μ-loop
 returns c =
-    let e : c .before .loop .j ≡ c .before .before .before .before .before .args .u = omega arith in
-    rw e at (c .before .loop .inv .3)
+    let p = c .before in
+    let e : p .loop .j ≡ p .before .before .before .before .args .u = omega arith in rw e at (p .loop .inv .3)
 
 pub read-back-spec : {M : Type 1} → statement M
 read-back-spec =
@@ -97,8 +111,11 @@ read-back-spec =
     loop-holds
     mul-a
     mul-b
-    add-u64-at
-    u64-at-requires
+    add-number
+    sub-number
+    part-number-start
+    part-number-end
+    number-requires
     mul-numbers
     slice-write-numbers
     add-sha256

@@ -1,0 +1,65 @@
+-- Each statement by its proof.
+use Rattle.sha256.proofs.Constants.{constants}
+use Rattle.sha256.proofs.Recurrence.{recurrence}
+use Rattle.protocol.proofs.CheckMeans.{check-means}
+use Rattle.protocol.proofs.NewMeans.{new-means}
+use Rattle.protocol.proofs.CommitMeans.{commit-means}
+use Rattle.protocol.proofs.NoJoin.{no-join}
+use Rattle.protocol.proofs.MarkedSuffices.{marked-suffices}
+use Rattle.protocol.proofs.ForkedRun.{forked-run}
+use Rattle.protocol.proofs.HonestTurns.{honest-turns}
+use Rattle.protocol.proofs.TurnsRun.{turns-run}
+use Rattle.protocol.proofs.TwoUsers.{two-users}
+use Rattle.protocol.proofs.SteadyTurns.{steady-turns}
+use Rattle.protocol.proofs.LastTurn.{last-turn}
+use Rattle.protocol.proofs.CommitsCounted.{commits-counted}
+use Rattle.protocol.proofs.ListingsAscend.{listings-ascend}
+use Rattle.itable.proofs.LookupMeans.{lookup-means}
+use Rattle.itable.proofs.NoneOnlyAtRoot.{none-only-at-root}
+use Rattle.itable.proofs.BlockCheckMeans.{block-check-means}
+use Rattle.itable.proofs.EntryMeans.{entry-means}
+use Rattle.itable.proofs.WrittenAnswers.{written-answers}
+use Rattle.itable.proofs.OtherwiseCollides.{otherwise-collides}
+use Rattle.itable.proofs.BufferAnswersAsTable.{buffer-answers}
+use Rattle.itable.proofs.AtMostBlocks.{at-most-blocks}
+use Rattle.sundr.proofs.AnswersRead.{answers-read}
+use Rattle.sundr.proofs.ServerInBytes.{server-in-bytes}
+use Rattle.input.proofs.UsersRefused.{users-refused}
+use Rattle.report.proofs.UsersPrinted.{users-printed}
+use Rattle.report.proofs.ExamplePrinted.{example-printed}
+use Rattle.claims.specs.Claims.{Claims}
+use Rattle.claims.proofs.ExamplesHold.{examples-hold}
+
+pub claims : Claims
+claims =
+    record {
+      no-join = no-join;
+      marked-suffices = marked-suffices;
+      forked-run = forked-run;
+      honest-turns = honest-turns;
+      turns-run = turns-run;
+      two-users = two-users;
+      steady-turns = steady-turns;
+      last-turn = last-turn;
+      check-means = check-means;
+      new-means = new-means;
+      commit-means = commit-means;
+      commits-counted = commits-counted;
+      listings-ascend = listings-ascend;
+      constants = constants;
+      recurrence = recurrence;
+      lookup-means = lookup-means;
+      none-only-at-root = none-only-at-root;
+      entry-means = entry-means;
+      written-answers = written-answers;
+      otherwise-collides = otherwise-collides;
+      buffer-answers = buffer-answers;
+      at-most-blocks = at-most-blocks;
+      block-check-means = block-check-means;
+      answers-read = answers-read;
+      server-in-bytes = server-in-bytes;
+      users-refused = users-refused;
+      users-printed = users-printed;
+      example-printed = example-printed;
+      examples-hold = examples-hold;
+    }

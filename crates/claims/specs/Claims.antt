@@ -1,0 +1,86 @@
+-- What is claimed of this library, beside the contracts of its calls: each field is a statement, which stands with its definitions in the
+-- file that is named. A contract says, for every input, that a call's answer and each lent byte are what a definition gives; these
+-- statements say what those definitions mean, and what holds over every run of them.
+use Rattle.sha256.specs.Constants.{Constants}
+use Rattle.sha256.specs.Schedule.{Recurrence}
+use Rattle.protocol.specs.Meaning.{CheckMeans, NewMeans}
+use Rattle.protocol.specs.CommitMeaning.{CommitMeans}
+use Rattle.protocol.specs.NoJoin.{NoJoin, MarkedSuffices}
+use Rattle.protocol.specs.ForkedRun.{ForkedRun}
+use Rattle.protocol.specs.Turns.{HonestTurns}
+use Rattle.protocol.specs.TurnsRun.{TurnsRun}
+use Rattle.protocol.specs.TwoUsers.{TwoUsers}
+use Rattle.protocol.specs.Steady.{SteadyTurns}
+use Rattle.protocol.specs.LastTurn.{LastTurn}
+use Rattle.protocol.specs.Commits.{CommitsCounted}
+use Rattle.protocol.specs.Listings.{ListingsAscend}
+use Rattle.itable.specs.LookupMeaning.{LookupMeans, NoneOnlyAtRoot}
+use Rattle.itable.specs.InodeMeaning.{BlockCheckMeans}
+use Rattle.itable.specs.Answers.{EntryMeans, AtMostBlocks, WrittenAnswers, OtherwiseCollides, BufferAnswersAsTable}
+use Rattle.input.specs.UsersRefused.{UsersRefused}
+use Rattle.report.specs.UsersPrinted.{UsersPrinted}
+use Rattle.report.specs.ExamplePrinted.{ExamplePrinted}
+use Rattle.sundr.specs.Read.{AnswersRead}
+use Rattle.sundr.specs.Server.{ServerInBytes}
+use Rattle.claims.specs.Examples.{ExamplesHold}
+
+pub record Claims : Type 1 where
+  -- No fork is joined: where two honest users signed structures that each lack the other's work, no call of any run accepts a list that
+  -- shows both, or later ones.
+  pub no-join : NoJoin
+  -- The order's own premise, of every marked record of an honest user in any list, is enough for it.
+  pub marked-suffices : MarkedSuffices
+  -- There is a run that meets the premise of this and forks, and the list that would join it is refused.
+  pub forked-run : ForkedRun
+  -- Honest users who take turns through an honest server are refused exactly at the last count.
+  pub honest-turns : HonestTurns
+  -- What these turns leave in the clients' memories is what the run of their calls leaves there.
+  pub turns-run : TurnsRun
+  -- There are such turns, and all are accepted.
+  pub two-users : TwoUsers
+  -- After such turns each client remembers what the server holds of it, and all that is held is ordered.
+  pub steady-turns : SteadyTurns
+  -- There is such a world in which a turn is refused, and turns that lead to such a refusal.
+  pub last-turn : LastTurn
+  -- A client's check accepts exactly where each condition holds, and refuses exactly for the first that does not.
+  pub check-means : CheckMeans
+  -- The new structure: its owner, its handle, and each of its counts.
+  pub new-means : NewMeans
+  -- A server's commit accepts exactly where each condition holds, and replaces one record.
+  pub commit-means : CommitMeans
+  -- The sum of all held own counts is the number of commits accepted since the server's list was made.
+  pub commits-counted : CommitsCounted
+  -- What a server lists is a list: whole records, well formed, owners ascending, and just what is held.
+  pub listings-ascend : ListingsAscend
+  -- The standard's constants are the bits of the roots of primes that it names.
+  pub constants : Constants
+  -- The message schedule is the standard's recurrence.
+  pub recurrence : Recurrence
+  -- A lookup accepts exactly where a chain of blocks, each of the hash that led to it and well formed, says so; else why it is refused.
+  pub lookup-means : LookupMeans
+  -- Only in a root is there no number at most the one that is looked up.
+  pub none-only-at-root : NoneOnlyAtRoot
+  -- What a table says of an i-number: the handle of the file of that number, or that no file has it.
+  pub entry-means : EntryMeans
+  -- Written blocks answer each lookup as the table does.
+  pub written-answers : WrittenAnswers
+  -- A path that is accepted under the table's root and says otherwise has a block that collides with a written one.
+  pub otherwise-collides : OtherwiseCollides
+  -- Both, of the bytes that the writer leaves in the lent buffer.
+  pub buffer-answers : BufferAnswersAsTable
+  -- A table takes at most 273 blocks.
+  pub at-most-blocks : AtMostBlocks
+  -- The check of a file's block accepts exactly where each condition holds, and refuses exactly for the first that does not.
+  pub block-check-means : BlockCheckMeans
+  -- What a caller in C reads in an answer's number is the answer, for every input of each call.
+  pub answers-read : AnswersRead
+  -- A server's list is one thing as a struct and as bytes.
+  pub server-in-bytes : ServerInBytes
+
+  -- The desk program's input with a number of users of 0 or above 16: judged, and printed, `refuse 1 0 0`.
+  pub users-refused : UsersRefused
+  pub users-printed : UsersPrinted
+  -- The paper's example of its output.
+  pub example-printed : ExamplePrinted
+  -- The twelve marked examples.
+  pub examples-hold : ExamplesHold

@@ -1,0 +1,12 @@
+-- Bytes that a hash names.
+use Prim.Native.Nat.{ℕ}
+use mathlib.Core.List.{List, [], _∷_}
+use lib.Dec.{eqb}
+use lib.ListN.{length}
+use Rattle.layout.specs.Strings.{same}
+use Rattle.refusal.specs.Order.{Step, unless}
+use Rattle.sha256.specs.Sha256.{sha256}
+
+-- 2, then 8, of the bytes that stand at a place of the refusals: they are of this size, and have this hash. The inode is place 0, the file block 1.
+unfoldable pub namedSteps : ℕ → List ℕ → ℕ → List ℕ → List Step
+namedSteps size hash place b = unless (eqb (length b) size) 2 place 0 ∷ unless (same (sha256 b) hash) 8 place 0 ∷ []
