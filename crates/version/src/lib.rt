@@ -3,10 +3,10 @@
 // by itself, of any length and bytes, and knows nothing of lists or signatures.
 ghost use mathlib.Core.Path.{_≡_};
 ghost use mathlib.Core.Bool.{cond, _||_};
-ghost use Prim.Native.Nat.{ℕ, _+_, _-_, _<_};
+ghost use Prim.Native.Nat.{ℕ, _-_, _<_};
 ghost use lib.Dec.{leb, eqb};
 ghost use lib.ListN.{length, getD};
-ghost use Rattle.layout.specs.Bytes.{values, bytes4};
+ghost use Rattle.layout.specs.Bytes.{values, bytes4, bytesAt};
 ghost use Rattle.protocol.specs.Version.{size, owner as ownerOf, count as countOf, own, counts as countsOf, structure};
 ghost use Rattle.protocol.specs.Version.{wellFormed, countsBefore, countsStrictlyBefore};
 ghost use Rattle.search.specs.Search.{every};
@@ -72,7 +72,7 @@ fn padded(x: &[u8]) -> [u8; SIZE]
 
 fn read_handle(x: &[u8]) -> [u8; 32]
     requires { ⌜ length (now x) ≡ size ⌝ }
-    ensures { λ r. ⌜ r ≡ values (λ i. getD (now (x .entry)) (2 + i) 0) 0 32 ⌝ }
+    ensures { λ r. ⌜ r ≡ bytesAt (now (x .entry)) 2 32 ⌝ }
 {
     let mut handle = [0u8; 32];
     bytes::copy(&x[HANDLE..COUNTS], &mut handle);
