@@ -76,7 +76,6 @@ pub record Claims : Type 1 where
   pub answers-read : AnswersRead
   -- A server's list is one thing as a struct and as bytes.
   pub server-in-bytes : ServerInBytes
-
   -- The desk program's input with a number of users of 0 or above 16: judged, and printed, `refuse 1 0 0`.
   pub users-refused : UsersRefused
   pub users-printed : UsersPrinted

@@ -2,14 +2,13 @@
 use Prim.Native.Nat.{ℕ, _+_, _*_, _-_, _<_}
 use mathlib.Core.Bool.{not, _&&_}
 use mathlib.Core.List.{List, _++_}
-use mathlib.Core.Path.{_≡_, sym, ap, ap₂, _∙_}
+use mathlib.Core.Path.{_≡_, ap, ap₂, _∙_}
 use native.Mathlib.Decide.{decLt}
 use native.Mathlib.Omega.{arith}
 use lib.Dec.{leb, eqb}
 use lib.ListN.{length, getD, take, drop, replicate, getD-replicate, List·getD-append, List·getD-eq-default}
 use lib.Seq.{getD-take, getD-drop, getD-append-add, take-length}
-use Rattle.layout.specs.Bytes.{four, part, values}
-use Rattle.layout.proofs.Bytes.{four-part}
+use Rattle.layout.specs.Bytes.{four, values}
 use Rattle.layout.proofs.Values.{getD-values, values-cong}
 use Rattle.protocol.specs.Version.{size, count, countsBefore, countsStrictlyBefore, atOrBefore, strictlyBefore}
 use Rattle.search.specs.Search.{every}
@@ -63,12 +62,6 @@ padded-alike x i h =
           )
           (getD-replicate {A = ℕ} size (length x + j) 0 0 (omega arith))
     ]
-
--- A count, read where its record stands among others.
-pub count-at : (list : List ℕ) (i v : ℕ) → v < 16 → four list (98 * i + 34 + 4 * v) ≡ count (part size list i) v
-count-at list i v h =
-    let e : 98 * i + 34 + 4 * v ≡ 98 * i + (34 + 4 * v) = omega arith in
-    rw e (sym (four-part list (98 * i) 98 (34 + 4 * v) (omega arith)))
 
 pub count-fields : (x : List ℕ) (v : ℕ) → v < 16 → countIn (fields x .counts) v ≡ count x v
 unfolding fields

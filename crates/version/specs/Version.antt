@@ -1,5 +1,5 @@
 -- A version structure's fields, as the code holds them.
-use Prim.Native.Nat.{ℕ, _+_}
+use Prim.Native.Nat.{ℕ}
 use mathlib.Core.List.{List}
 use lib.ListN.{getD}
 use Rattle.layout.specs.Bytes.{values, bytesAt}

@@ -3,10 +3,10 @@
 // by itself, of any length and bytes, and knows nothing of lists or signatures.
 ghost use mathlib.Core.Path.{_≡_};
 ghost use mathlib.Core.Bool.{cond, _||_};
-ghost use Prim.Native.Nat.{ℕ, _+_, _-_, _<_};
+ghost use Prim.Native.Nat.{ℕ, _-_, _<_};
 ghost use lib.Dec.{leb, eqb};
 ghost use lib.ListN.{length, getD};
-ghost use Rattle.layout.specs.Bytes.{values, bytesAt, bytes4};
+ghost use Rattle.layout.specs.Bytes.{values, bytes4, bytesAt};
 ghost use Rattle.protocol.specs.Version.{size, owner as ownerOf, count as countOf, own, counts as countsOf, structure};
 ghost use Rattle.protocol.specs.Version.{wellFormed, countsBefore, countsStrictlyBefore};
 ghost use Rattle.search.specs.Search.{every};
