@@ -4,8 +4,7 @@
 use refusal::Check;
 use refusal::Refusal;
 ghost use mathlib.Core.Path.{_≡_};
-ghost use Prim.Native.Nat.{_+_, _*_, _≤_, _<_};
-ghost use lib.ListN.{length};
+ghost use Prim.Native.Nat.{_*_, _≤_, _<_};
 ghost use Rattle.refusal.specs.Refusal.{said};
 ghost use Rattle.refusal.specs.Order.{tried};
 ghost use Rattle.itable.specs.Inode.{fileBlocks, blockLength, restZero, holds as holdsOf, fileLength, wellFormed};
