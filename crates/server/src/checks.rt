@@ -13,7 +13,7 @@ ghost use Rattle.search.specs.Search.{find};
 ghost use Rattle.refusal.specs.Order.{tried};
 ghost use Rattle.refusal.specs.Refusal.{said};
 ghost use Rattle.layout.specs.Bytes.{part};
-ghost use Rattle.protocol.specs.Version.{size, owner as ownerOf, countsStrictlyBefore};
+ghost use Rattle.protocol.specs.Version.{size, owner as ownerOf, count, countsStrictlyBefore};
 ghost use Rattle.protocol.specs.Server.{makeSteps, follows as followsOf, commitSteps};
 ghost use Rattle.version.specs.Version.{fields, countIn};
 
@@ -34,13 +34,12 @@ pub(crate) fn make_check(users: u8) -> Check
 // new structure.
 fn in_order(own: u32, records: &[u8], v: usize, new: [u32; 16]) -> bool
     requires { ⌜ (length (now records) ≡ 1568) × (v < 16) ⌝ }
-    ensures { λ r. ⌜ r ≡ (eqb own 0 || countsStrictlyBefore (countIn (fields (part size (now (records .entry)) v) .counts)) (countIn new)) ⌝ }
+    ensures { λ r. ⌜ r ≡ (eqb own 0 || countsStrictlyBefore (count (part size (now (records .entry)) v)) (countIn new)) ⌝ }
 {
     if own == 0 {
         return true;
     }
-    let held = held::counts(records, v);
-    version::strictly_before(held, new)
+    held::is_before(records, v, new)
 }
 
 // Test 7 at user v, of a new structure of this owner with these counts.
