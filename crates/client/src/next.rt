@@ -30,6 +30,7 @@ pub(crate) fn counts(user: u8, memory: &[u8], list: &[u8]) -> [u32; 16]
     counts
 }
 
+// The bytes of the next structure, into the buffer for the answer.
 pub(crate) fn write(user: u8, handle: &[u8], counts: [u32; 16], out: &mut [u8])
     requires { ⌜ length (now handle) ≡ 32 ⌝ }
     requires { ⌜ length (now out) ≡ size ⌝ }

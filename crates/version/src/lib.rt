@@ -38,6 +38,7 @@ pub fn owner(x: &[u8]) -> u8
     layout::byte_at(x, OWNER)
 }
 
+// The number at user v's place among the counts.
 fn count_at(x: &[u8], v: usize) -> u32
     requires { ⌜ v < 256 ⌝ }
     ensures { λ r. ⌜ r ≡ countOf (now (x .entry)) v ⌝ }
