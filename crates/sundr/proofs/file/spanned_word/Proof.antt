@@ -23,7 +23,9 @@ returns : tie.Need-returns
 returns c = accepted-word (λ (a : Span). a .offset) (λ a. a .size) (ap answerOf (c .before .before .s .given .1)) (c .word .ensures)
 
 returns-2 : tie.Need-returns-2
-returns-2 c = let r = c .before .before .s2 .given in refused-word (λ (a : Span). a .offset) (λ a. a .size) (r .0 .0) (ap answerOf (r .1)) (c .refusal-word .ensures)
+returns-2 c =
+    let r = c .before .before .s2 .given in
+    refused-word (λ (a : Span). a .offset) (λ a. a .size) (r .0 .0) (ap answerOf (r .1)) (c .refusal-word .ensures)
 
 pub spanned-word-spec : {M : Type 1} → statement M
 spanned-word-spec =
