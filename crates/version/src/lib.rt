@@ -2,7 +2,7 @@
 // formed and written, and two structures are compared by their counts. Each call is about one record
 // by itself, of any length and bytes, and knows nothing of lists or signatures.
 ghost use mathlib.Core.Path.{_≡_};
-ghost use mathlib.Core.Bool.{cond, _||_};
+ghost use mathlib.Core.Bool.{cond, not, _||_};
 ghost use Prim.Native.Nat.{ℕ, _-_, _<_};
 ghost use lib.Dec.{leb, eqb};
 ghost use lib.ListN.{length, getD};
@@ -241,4 +241,43 @@ pub fn comparable(x: [u32; 16], y: [u32; 16]) -> bool
     ensures { λ r. ⌜ r ≡ (countsBefore (countIn x) (countIn y) || countsBefore (countIn y) (countIn x)) ⌝ }
 {
     standing(x, y) != 3
+}
+
+// Whether each count of a record is at most that of y. Here and below a count is compared as it is
+// read: sixteen that are first written to an array are waited for.
+fn at_most(x: &[u8], y: [u32; 16]) -> bool
+    ensures { λ r. ⌜ r ≡ countsBefore (countOf (now (x .entry))) (countIn y) ⌝ }
+{
+    let mut v = 0;
+    while v < 16 {
+        if y[v] < count(x, v as u8) {
+            return false;
+        }
+        v += 1;
+    }
+    true
+}
+
+// Whether some count of a record is not that of y.
+fn differs(x: &[u8], y: [u32; 16]) -> bool
+    ensures { λ r. ⌜ r ≡ not (every (λ v. eqb (countOf (now (x .entry)) v) (countIn y v)) 0 16) ⌝ }
+{
+    let mut v = 0;
+    while v < 16 {
+        if count(x, v as u8) != y[v] {
+            return true;
+        }
+        v += 1;
+    }
+    false
+}
+
+// Whether a record is at or before y, and some count differs: for a record that is compared once.
+pub fn record_before(x: &[u8], y: [u32; 16]) -> bool
+    ensures { λ r. ⌜ r ≡ countsStrictlyBefore (countOf (now (x .entry))) (countIn y) ⌝ }
+{
+    if !at_most(x, y) {
+        return false;
+    }
+    differs(x, y)
 }

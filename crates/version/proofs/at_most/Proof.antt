@@ -8,15 +8,15 @@ use borrow.Author.Tests.{le-leb, lt-leb}
 use lib.Dec.{leb}
 use Rattle.search.proofs.Search.{every-intro, every-fails, span-more}
 use Rattle.protocol.specs.Version.{count, countsBefore}
 use Rattle.version.specs.Version.{countIn}
-use Rattle.server.proofs.held.at_most.Statement.{statement}
-use Rattle.server.proofs.held.at_most.Tie as tie
+use Rattle.version.proofs.at_most.Statement.{statement}
+use Rattle.version.proofs.at_most.Tie as tie
 
 abbrev Inv-loop : tie.InvT-loop
-Inv-loop x new v₀ v = (v ≤ 16) × ((m : ℕ) → 0 ≤ m → m < v → leb (count x m) (countIn new m) ≡ true)
+Inv-loop x y v₀ v = (v ≤ 16) × ((m : ℕ) → 0 ≤ m → m < v → leb (count x m) (countIn y m) ≡ true)
 
 abbrev μ-loop : tie.MeasureT-loop
-μ-loop x new v₀ v = 16 - v
+μ-loop x y v₀ v = 16 - v
 
 loop-holds : tie.Need-loop-holds Inv-loop μ-loop
 loop-holds c = (omega arith, λ m a b. absurd (omega arith))
