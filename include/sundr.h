@@ -167,9 +167,9 @@ uint64_t sundr_server_list_at(const uint8_t *server, size_t server_len,
  * sundr_server_commit: takes a client's new record into the server's list.
  *
  * Reads the record, and its mark (1 if the caller found its signature good). Accepted: the
- * record is in its owner's slot, nothing else of *server is altered, and both results are 0.
+ * record is in its owner's slot, whose 98 bytes are all that is written, and both results are 0.
  *
- * Refused, with *server as it was; tried in this order:
+ * Refused, with *server as it was, no byte of it being written; tried in this order:
  *   SUNDR_LENGTH        record_len is not 98.
  *   SUNDR_MALFORMED     the record is not well formed for server->users users.
  *   SUNDR_UNSIGNED      mark is not 1.

@@ -1,7 +1,11 @@
 /* The papers' examples of a client's check, and a server's session, through include/sundr.h. */
+#define _DEFAULT_SOURCE /* MAP_ANONYMOUS */
+
 #include "sundr.h"
 
+#include <stdlib.h>
 #include <string.h>
+#include <sys/mman.h>
 
 #include "bytes.h"
 #include "check.h"
@@ -207,18 +211,33 @@ static int lists(const struct sundr_server *server, const uint8_t *records, uint
 		&& sundr_second(answer) == 0 && memcmp(got, due, sizeof due) == 0;
 }
 
-/* Whether a commit is refused so, and the server is as it was. */
+/* The server once more, in memory that can be read and not written. */
+static struct sundr_server *read_only(const struct sundr_server *server)
+{
+	void *copy = mmap(NULL, sizeof *server, PROT_READ | PROT_WRITE, MAP_PRIVATE | MAP_ANONYMOUS, -1, 0);
+
+	if (copy == MAP_FAILED)
+		abort();
+	memcpy(copy, server, sizeof *server);
+	if (mprotect(copy, sizeof *server, PROT_READ) != 0)
+		abort();
+	return copy;
+}
+
+/* Whether a commit is refused so, and nothing is written: the server is as it was, and may be read-only. */
 static int turns_away(struct sundr_server *server, struct version v, uint8_t mark,
 	enum sundr_refusal_number number, uint32_t first)
 {
-	struct sundr_server before = *server;
+	struct sundr_server before = *server, *locked = read_only(server);
 	uint8_t record[98];
-	uint64_t answer;
+	uint64_t answer, again;
 
 	encode(record, v);
 	answer = sundr_server_commit(server, record, sizeof record, mark);
+	again = sundr_server_commit(locked, record, sizeof record, mark);
+	munmap(locked, sizeof *locked);
 	return sundr_refusal(answer) == number && sundr_first(answer) == first && sundr_second(answer) == 0
-		&& memcmp(server, &before, sizeof before) == 0;
+		&& again == answer && memcmp(server, &before, sizeof before) == 0;
 }
 
 static void session(void)

@@ -25,8 +25,8 @@ use Rattle.sundr.specs.Server.{ServerInBytes}
 use Rattle.claims.specs.Examples.{ExamplesHold}
 
 pub record Claims : Type 1 where
-  -- No fork is joined: where two honest users signed structures that each lack the other's work, no call of any run accepts a list that
-  -- shows both, or later ones.
+  -- No fork is joined: in every run in which no honest user's record is forged, where two honest users signed structures that each lack the
+  -- other's work, no call accepts a list that shows both, or later ones.
   pub no-join : NoJoin
   -- The order's own premise, of every marked record of an honest user in any list, is enough for it.
   pub marked-suffices : MarkedSuffices
@@ -76,8 +76,9 @@ pub record Claims : Type 1 where
   pub answers-read : AnswersRead
   -- A server's list is one thing as a struct and as bytes.
   pub server-in-bytes : ServerInBytes
-  -- The desk program's input with a number of users of 0 or above 16: judged, and printed, `refuse 1 0 0`.
+  -- An input of the desk program with a number of users of 0 or above 16 is judged `refuse 1 0 0`.
   pub users-refused : UsersRefused
+  -- And it is printed so.
   pub users-printed : UsersPrinted
   -- The paper's example of its output.
   pub example-printed : ExamplePrinted

@@ -4,14 +4,15 @@
 // read that fails counts as the input's end.
 use libc::STDIN_FILENO;
 use libc::STDOUT_FILENO;
+use report::MOST;
 use report::Printed;
 
 fn main() {
     // One byte more than the longest input of the stated form, so that a longer one is seen to be.
     let mut input = [0u8; 1718];
     let n = io::read_full(STDIN_FILENO, &mut input);
-    // No output is longer than 393 bytes, so none is refused.
-    let mut output = [0u8; 393];
+    // No output is longer, so none is refused.
+    let mut output = [0u8; MOST];
     let printed = report::print(&input[..n], &mut output);
     if let Printed::Bytes(k) = printed {
         io::write_all(STDOUT_FILENO, &output[..k]);

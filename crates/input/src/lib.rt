@@ -11,8 +11,22 @@ ghost use Rattle.refusal.specs.Answer.{accepted, andThen};
 ghost use Rattle.refusal.specs.Refusal.{checked as checkedOf};
 ghost use Rattle.input.specs.Form.{users as usersOf, user as userOf, handle as handleOf, formed as formedOf, behindMemory, firstMarks, firstRecords};
 ghost use Rattle.input.specs.Report.{Judgement, sixteen, answered, judgement, Reports};
+use protocol::RECORDS;
 use refusal::Check;
 use refusal::Refusal;
+use version::SIZE;
+
+// Where the handle, the flag and the remembered structure stand, the place after that structure, and the
+// bytes of a mark with its record.
+const HANDLE: usize = 2;
+
+const FLAG: usize = 34;
+
+const MEMORY: usize = 35;
+
+const AFTER_MEMORY: usize = 133;
+
+const MARKED: usize = 99;
 
 // What is said of an input.
 pub enum Outcome {
@@ -35,22 +49,22 @@ fn behind_memory(flag: u8) -> usize
     ensures { λ r. ⌜ (r ≡ behindMemory flag) × (35 ≤ r) ⌝ }
 {
     if flag == 1 {
-        return 133;
+        return AFTER_MEMORY;
     }
-    35
+    MEMORY
 }
 
 // Whether the input is of the stated form. A length of at most 1,717 leaves room for sixteen records at most.
 fn formed(input: &[u8]) -> bool
     ensures { λ r. ⌜ r ≡ formedOf (now (input .entry)) ⌝ }
 {
-    if input.len() < 35 {
+    if input.len() < MEMORY {
         return false;
     }
     if 1717 < input.len() {
         return false;
     }
-    let flag = input[34];
+    let flag = input[FLAG];
     if 1 < flag {
         return false;
     }
@@ -58,7 +72,7 @@ fn formed(input: &[u8]) -> bool
     if input.len() < start {
         return false;
     }
-    if (input.len() - start) % 99 != 0 {
+    if (input.len() - start) % MARKED != 0 {
         return false;
     }
     true
@@ -75,10 +89,10 @@ fn take_apart(sent: &[u8], n: usize, marks: &mut [u8], list: &mut [u8])
 {
     let mut i = 0;
     while i < n {
-        marks[i] = sent[99 * i];
+        marks[i] = sent[MARKED * i];
         bytes::copy(
-            &sent[99 * i + 1..99 * i + 99],
-            &mut list[98 * i..98 * i + 98],
+            &sent[MARKED * i + 1..MARKED * i + MARKED],
+            &mut list[SIZE * i..SIZE * i + SIZE],
         );
         i += 1;
     }
@@ -119,14 +133,14 @@ fn ask(input: &[u8], start: usize, list: &[u8], marks: &[u8]) -> Report
 {
     let users = input[0];
     let user = input[1];
-    let mut new = [0u8; 98];
+    let mut new = [0u8; SIZE];
     let answer = client::check(
         users,
         user,
-        &input[35..start],
+        &input[MEMORY..start],
         list,
         marks,
-        &input[2..34],
+        &input[HANDLE..FLAG],
         &mut new,
     );
     tell(users, user, answer, &new)
@@ -137,12 +151,12 @@ fn checked(input: &[u8]) -> Report
     requires { ⌜ formedOf (now input) ≡ true ⌝ }
     ensures { λ r. ⌜ Reports (judgement (now (input .entry))) (usersOf (now (input .entry))) (userOf (now (input .entry))) r ⌝ }
 {
-    let start = behind_memory(input[34]);
-    let n = (input.len() - start) / 99;
+    let start = behind_memory(input[FLAG]);
+    let n = (input.len() - start) / MARKED;
     let mut marks = [0u8; 16];
-    let mut list = [0u8; 1568];
+    let mut list = [0u8; RECORDS];
     take_apart(&input[start..], n, &mut marks, &mut list);
-    ask(input, start, &list[..98 * n], &marks[..n])
+    ask(input, start, &list[..SIZE * n], &marks[..n])
 }
 
 // The report on an input: it is of another form, or it holds u, N and all that the check is asked

@@ -19,7 +19,9 @@ unfolding same
 same-refl [] = refl
 same-refl (x ∷ xs) = rw (eq-eqb x x refl, same) (same-refl xs)
 
-same-step : (x y : ℕ) (xs ys : List ℕ) (b : Bool) → eqb x y ≡ b → (same xs ys ≡ true → xs ≡ ys) → elim b [ true ↦ same xs ys | false ↦ false ] ≡ true → x ∷ xs ≡ y ∷ ys
+same-step :
+    (x y : ℕ) (xs ys : List ℕ) (b : Bool) → eqb x y ≡ b → (same xs ys ≡ true → xs ≡ ys) →
+    elim b [ true ↦ same xs ys | false ↦ false ] ≡ true → x ∷ xs ≡ y ∷ ys
 same-step x y xs ys true e ih h = ap₂ _∷_ (eqb-true x y e) (ih h)
 same-step x y xs ys false e ih h = absurd (not-both h refl)
 
@@ -40,7 +42,8 @@ same-by :
     (xs ys : List ℕ) (b : Bool) → length xs ≡ length ys → every (λ i. eqb (getD xs i 0) (getD ys i 0)) 0 (length xs) ≡ b →
     b ≡ same xs ys
 same-by xs ys true l e =
-    let q : xs ≡ ys = ext-getD 0 xs ys l (λ i h. eqb-true (getD xs i 0) (getD ys i 0) (every-at (λ i. eqb (getD xs i 0) (getD ys i 0)) 0 (length xs) e i (omega arith) (omega arith))) in
+    let each = every-at (λ i. eqb (getD xs i 0) (getD ys i 0)) 0 (length xs) e in
+    let q : xs ≡ ys = ext-getD 0 xs ys l (λ i h. eqb-true (getD xs i 0) (getD ys i 0) (each i (omega arith) (omega arith))) in
     sym (ap (same xs) (sym q) ∙ same-refl xs)
 same-by xs ys false l e =
     let f = first-failure (λ i. eqb (getD xs i 0) (getD ys i 0)) 0 (length xs) e in

@@ -14,6 +14,9 @@ ghost use Rattle.report.specs.Printed.{printed};
 ghost use Rattle.report.specs.Print.{printedGiven, printing, printedAs};
 use refusal::Refusal;
 
+// The bytes that are enough for any output.
+pub const MOST: usize = 393;
+
 // What printing gives: how many bytes were written, or why none were.
 pub enum Printed {
     Bytes(usize),
@@ -29,7 +32,7 @@ pub fn print(input: &[u8], out: &mut [u8]) -> Printed
     ensures leaves { λ r. ⌜ now (out .exit) ≡ left (printing (now (input .entry)) (now (out .entry))) (now (out .entry)) ⌝ }
     ensures short { λ r. ⌜ length (printed (now (input .entry))) ≤ 393 ⌝ }
 {
-    let mut text = [0u8; 393];
+    let mut text = [0u8; MOST];
     let n = lines::report(input::judge(input), &mut text);
     if out.len() < n {
         return Printed::Refused(Refusal::NoRoom);

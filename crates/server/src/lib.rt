@@ -2,6 +2,7 @@
 // buffer, and changed by a commit, one record at a time. Each call answers as the protocol's
 // definitions say, for every server value, also one that no call made: a user's record is held
 // exactly where its own count is not 0. It checks no signature; a mark says whether one is good.
+use protocol::RECORDS;
 use protocol::Server;
 use refusal::Check;
 use refusal::Refusal;
@@ -42,7 +43,7 @@ pub struct Committed {
 fn empty(users: u8) -> Server
     ensures { λ r. ⌜ r ≡ emptyOf users ⌝ }
 {
-    let records = [0u8; 1568];
+    let records = [0u8; RECORDS];
     Server { users, records }
 }
 
@@ -89,7 +90,7 @@ fn replace(records: &mut [u8], x: &[u8], owner: usize)
 pub fn commit_into(users: u8, records: &mut [u8], x: &[u8], mark: u8) -> Check
     ensures { λ r. ⌜ Gives (commitInto users (now (records .entry)) (now (x .entry)) mark) (now (records .entry)) (now (records .exit)) r ⌝ }
 {
-    if records.len() != 1568 {
+    if records.len() != RECORDS {
         return Check::Refused(Refusal::Length(0));
     }
     let check = checks::commit_check(users, records, x, mark);

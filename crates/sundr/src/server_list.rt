@@ -1,6 +1,8 @@
 // The server's list (the keeper), for C: made in lent bytes, listed from them, and changed in a lent
 // struct of the same layout.
 use crate::server_bytes;
+use crate::server_bytes::SIZE;
+use protocol::RECORDS;
 use protocol::Server;
 use refusal::Check;
 use refusal::Refusal;
@@ -19,7 +21,7 @@ pub extern "C" fn sundr_server_make_at(users: u8, server: &mut [u8]) -> u64
     ensures answer { λ r. ⌜ r ≡ plainWord (makeAt users (now (server .entry))) ⌝ }
     ensures buffer { λ r. ⌜ now (server .exit) ≡ left (makeAt users (now (server .entry))) (now (server .entry)) ⌝ }
 {
-    if server.len() != 1569 {
+    if server.len() != SIZE {
         return refusal::refusal_word(Refusal::Length(0));
     }
     let made = server::make(users);
@@ -47,14 +49,14 @@ pub extern "C" fn sundr_server_list_at(server: &[u8], out: &mut [u8]) -> u64
     ensures answer { λ r. ⌜ r ≡ answerWord (λ n. n) (λ n. 0) (listedAt (now (server .entry)) (length (now (out .entry)))) ⌝ }
     ensures buffer { λ r. ⌜ now (out .exit) ≡ left (listingAt (now (server .entry)) (now (out .entry))) (now (out .entry)) ⌝ }
 {
-    if server.len() == 1569 {
+    if server.len() == SIZE {
         return listed_word(server::list(server_bytes::read(server), out));
     }
     refusal::refusal_word(Refusal::Length(0))
 }
 
 // A commit to a list whose records are lent beside its number of users: the answer as a number.
-fn committed(users: u8, records: &mut [u8; 1568], x: &[u8], mark: u8) -> u64
+fn committed(users: u8, records: &mut [u8; RECORDS], x: &[u8], mark: u8) -> u64
     requires { ⌜ length (now records) ≡ 1568 ⌝ }
     ensures { λ w. ⌜ (w ≡ plainWord (commitOf (record { users = users; records = now (records .entry) }) (now (x .entry)) mark))
         × (record { users = users; records = now (records .exit) }

@@ -119,16 +119,6 @@ pub fn read(x: &[u8]) -> Version
     read_whole(&x[0..SIZE])
 }
 
-// The counts of a record alone.
-pub fn counts(x: &[u8]) -> [u32; 16]
-    ensures { λ r. ⌜ r ≡ fields (now (x .entry)) .counts ⌝ }
-{
-    if x.len() < SIZE {
-        return read_counts(x);
-    }
-    read_counts(&x[0..SIZE])
-}
-
 // Whether the counts of the users from `from` to 15 are all 0.
 fn zero_from(x: &[u8], from: usize) -> bool
     ensures { λ r. ⌜ r ≡ every (λ v. eqb (countOf (now (x .entry)) v) 0) from (16 - from) ⌝ }

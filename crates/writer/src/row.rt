@@ -1,5 +1,6 @@
 // Rows of blocks: the leaves over the files, and inner blocks over blocks that are written already.
 use crate::count;
+use block::LEAF;
 use block::SIZE;
 use block::fill;
 ghost use mathlib.Core.Path.{_≡_};
@@ -23,7 +24,7 @@ pub(crate) fn leaves(numbers: &[u64], handles: &[u8], l: usize, out: &mut [u8])
         let b = 512 * k;
         let at = SIZE * k;
         fill::fill(
-            3,
+            LEAF,
             &numbers[a..a + u],
             &handles[b..b + 32 * u],
             &mut out[at..at + SIZE],

@@ -80,8 +80,10 @@ join-requires-2 : tie.Need-join-requires-2
 join-requires-2 c κs = search needs
 
 returns-2 : tie.Need-returns-2
-returns-2 c = joined _ _ _ _ _ _ _ _
-    (c .before .before .before .before .behind .ensures) (c .before .before .before .behind2 .ensures) (c .before .before .behind3 .ensures) (c .before .behind4 .ensures) (c .join2 .ensures)
+returns-2 c =
+    let third = c .before .before in
+    joined _ _ _ _ _ _ _ _ (third .before .before .behind .ensures) (third .before .behind2 .ensures) (third .behind3 .ensures)
+    (c .before .behind4 .ensures) (c .join2 .ensures)
 
 pub quad-spec : {M : Type 1} → statement M
 quad-spec =

@@ -30,8 +30,9 @@ copy-requires c κs = search needs
 returns : tie.Need-returns
 unfolding serverIn
 returns c =
-    let b = c .before .before .before .before .before .before .args .bytes .now in
-    let h = c .before .before .before .before .before .before .pre in
+    let start = c .before .before .before .before .before .before in
+    let b = start .args .bytes .now in
+    let h = start .pre in
     let e = read-back b _ _ h refl (c .before .copy .ensures .1) in
     ap (λ (r : List ℕ). record { users = getD b 0 0; records = r }) e
 

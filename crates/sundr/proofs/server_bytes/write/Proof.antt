@@ -35,16 +35,18 @@ copy-requires c κs =
 returns : tie.Need-returns
 unfolding bytesOf
 returns c =
-    let a = c .before .before .before .before .before .before .before .before .args in
-    let p = c .before .before .before .before .before .before .before .before .pre in
+    let start = c .before .before .before .before .before .before .before .before in
+    let a = start .args in
+    let p = start .pre in
     let l : length (a .t1 .records) ≡ 1568 = search needs in
     written (a .out .now) (a .t1 .records) (a .t1 .users) p l _ (c .before .before .copy .ensures .1)
 
 same-length : tie.Need-same-length
 unfolding bytesOf
 same-length c =
-    let a = c .before .before .before .before .before .before .before .before .args in
-    let p = c .before .before .before .before .before .before .before .before .pre in
+    let start = c .before .before .before .before .before .before .before .before in
+    let a = start .args in
+    let p = start .pre in
     let l : length (a .t1 .records) ≡ 1568 = search needs in
     ap length (returns c) ∙ omega (arith, l, p)
 
