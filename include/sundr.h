@@ -1,15 +1,18 @@
 /*
- * sundr.h: the calls of the SUNDR client library, libsundr.a.
+ * sundr.h: the calls of the SUNDR client library, libsundr.a. For C99 and later, and C++.
  *
  * No call allocates, keeps anything between calls, or reads or writes anything but what is
  * lent to it. All memory belongs to the caller, before and after. Calls may run in several
- * threads at once, on memory that they do not share.
+ * threads at once, on memory that they do not share. The archive is for x86-64 Linux, and
+ * needs memcpy() and memset() of whatever it is linked with.
  *
  * Lent memory. Each buffer is passed as a pointer, then the number of its elements. The
- * pointer may be NULL where that number is 0; otherwise all the elements must be there.
- * A buffer that a call writes (a pointer to non-const) must not overlap another of its
- * buffers. There is no other duty: whatever the bytes, the numbers and the lengths are,
- * each call ends, with the answer that its comment gives.
+ * pointer may be NULL where that number is 0; otherwise all the elements must be there, and
+ * it is aligned for them, which matters for the i-numbers of sundr_table_write() alone. A
+ * pointer without a number, to a struct or to the bytes of a version structure, points to one,
+ * whole, and is never NULL. A buffer that a call writes (a pointer to non-const) must not
+ * overlap another of its buffers. There is no other duty: whatever the bytes, the numbers and
+ * the lengths are, each call ends, with the answer that its comment gives.
  *
  * Answers. Each call answers one number of 64 bits:
  *
@@ -19,6 +22,14 @@
  *
  * A result or a position that a call's comment does not name is 0. A call that refuses has
  * not altered one lent byte.
+ *
+ * Stack. The bytes that a call takes, with what it takes to call it, measured by make bench and
+ * not proved:
+ *
+ *     sundr_sha256           764        sundr_server_commit     676
+ *     sundr_check          2,244        sundr_table_write     1,692
+ *     sundr_server_make_at     ?        sundr_lookup          1,148
+ *     sundr_server_list_at     ?        sundr_block_check       924
  */
 #ifndef SUNDR_H
 #define SUNDR_H
@@ -29,6 +40,12 @@
 #ifdef __cplusplus
 extern "C" {
 #endif
+
+/* The version of the library that this header belongs to. */
+#define SUNDR_VERSION "0.3.0"
+#define SUNDR_VERSION_MAJOR 0
+#define SUNDR_VERSION_MINOR 3
+#define SUNDR_VERSION_PATCH 0
 
 /* The numbers in bits 0 to 7 of an answer. */
 enum sundr_refusal_number {
@@ -65,6 +82,44 @@ static inline uint32_t sundr_second(uint64_t answer)
 	return (uint32_t)(answer >> 32);
 }
 
+/*
+ * A sentence for a refusal's number, to be shown to the user of a client. A server that refuses
+ * a commit reads 5 and 7 as sundr_server_commit() has them.
+ */
+static inline const char *sundr_refusal_text(unsigned number)
+{
+	switch (number) {
+	case SUNDR_ACCEPTED:
+		return "accepted";
+	case SUNDR_USERS:
+		return "there is no such user: users are numbered from 0, and there are 1 to 16";
+	case SUNDR_LENGTH:
+		return "a length is not the one that is due: cut off, or too long";
+	case SUNDR_MALFORMED:
+		return "a record, the order of records, a block or an inode is malformed";
+	case SUNDR_UNSIGNED:
+		return "a record's signature is not good";
+	case SUNDR_NOT_CURRENT:
+		return "the server's list does not continue your last version: rolled back, or your record is hidden";
+	case SUNDR_LAST_VERSION:
+		return "your version number is the last there is: this user can make no further version";
+	case SUNDR_UNORDERED:
+		return "two versions stand apart: forked";
+	case SUNDR_WRONG_HASH:
+		return "a hash is not the expected one: these are not the bytes that were signed";
+	case SUNDR_PATH_LENGTH:
+		return "the path through the table has too few blocks, or too many";
+	case SUNDR_NO_BLOCK:
+		return "the file has no block of this index";
+	case SUNDR_NOT_ASCENDING:
+		return "the i-numbers do not ascend";
+	case SUNDR_NO_ROOM:
+		return "the buffer is too short for what is to be written";
+	default:
+		return "not a refusal of this version of the library";
+	}
+}
+
 /* The longest message that sundr_sha256() takes, and the length of a hash. */
 #define SUNDR_SHA256_MAX_MESSAGE 65536
 #define SUNDR_SHA256_LEN 32
@@ -90,7 +145,36 @@ uint64_t sundr_sha256(const uint8_t *message, size_t message_len,
  * A version structure, 98 bytes: the byte 1; its owner, a byte; an i-handle, 32 bytes; then, for
  * each user from 0 to 15, how many operations of that user it counts, 4 bytes, big-endian. A
  * version structure list (VSL) is such records end to end.
+ *
+ * What a version structure says is worth something once a check has accepted it: read the records
+ * of a list after sundr_check() accepted the list, and not before.
  */
+
+/* The user whose version structure this is. */
+static inline uint8_t sundr_owner(const uint8_t *version)
+{
+	return version[1];
+}
+
+/* The i-handle in a version structure: SUNDR_HANDLE_LEN bytes, where they lie. */
+static inline const uint8_t *sundr_i_handle(const uint8_t *version)
+{
+	return version + 2;
+}
+
+/* How many operations of a user a version structure counts; none of a user that cannot be. */
+static inline uint32_t sundr_count(const uint8_t *version, uint8_t user)
+{
+	const uint8_t *at = version + 34;
+
+	if (user >= SUNDR_MAX_USERS)
+		return 0;
+	at += 4 * user;
+	return (uint32_t)at[0] << 24 | (uint32_t)at[1] << 16 | (uint32_t)at[2] << 8 | at[3];
+}
+
+/* The first position of a refusal of sundr_check() that means memory, and no record of the list. */
+#define SUNDR_MEMORY_POSITION 16
 
 /*
  * sundr_check: a client's check of the server's version structure list, and its next version
@@ -100,16 +184,18 @@ uint64_t sundr_sha256(const uint8_t *message, size_t message_len,
  * memory[0..memory_len) (98 bytes, or none where it has none yet), the list, a mark for each of
  * its records (1 if the caller found the record's signature good), and the new i-handle.
  * Accepted: the client's next version structure is in out[0..98), and both results are 0. To
- * sign it, and to keep it as the next call's memory, is the caller's.
+ * sign it, and to keep it as the next call's memory, is the caller's: written to disk, and there
+ * for good, before it is sent. A client that sent a structure and forgot it is refused from then
+ * on, or signs a second one of the same count, which forks its own history.
  *
  * Refused, with out as it was; tried in this order, each over all records before the next:
  *   SUNDR_USERS         users is not 1 to 16, or user is not below users.
  *   SUNDR_LENGTH        memory_len is not 0 or 98, list_len is not a multiple of 98 or is above
  *                       98 * users, marks_len is not list_len / 98, handle_len is not 32, or
  *                       out_len is not 98.
- *   SUNDR_MALFORMED     first 16: memory is not well formed, or not the client's own;
- *                       first below 16: the first record that is not well formed, or whose
- *                       owner is not above the owner before.
+ *   SUNDR_MALFORMED     first SUNDR_MEMORY_POSITION: memory is not well formed, or not the
+ *                       client's own; else first is the first record that is not well formed,
+ *                       or whose owner is not above the owner before.
  *   SUNDR_UNSIGNED      first: the first mark that is not 1.
  *   SUNDR_NOT_CURRENT   the list's record for the user and memory differ in a byte, or only
  *                       one of them is there.
@@ -135,8 +221,9 @@ struct sundr_server {
 	uint8_t records[SUNDR_MAX_USERS * SUNDR_VERSION_LEN];
 };
 
-/* The bytes of a struct sundr_server. */
+/* The bytes of a struct sundr_server; a compiler that pads it refuses the next line. */
 #define SUNDR_SERVER_LEN 1569
+typedef char sundr_server_is_not_padded[sizeof(struct sundr_server) == SUNDR_SERVER_LEN ? 1 : -1];
 
 /*
  * sundr_server_make_at: an empty list, in server[0..1569), for this many users.
@@ -214,7 +301,19 @@ static inline uint64_t sundr_server_list(const struct sundr_server *server, uint
  * Reads the i-numbers numbers[0..count), strictly ascending, and a file handle of 32 bytes for
  * each. Accepted: the first result is the number n of blocks, which are in out[0..642 * n):
  * leaves first, the root last; the bytes of out after them are as they were. The second result
- * is 0.
+ * is 0. The i-handle is the SHA-256 of the root, which is for the caller to take.
+ *
+ * Which blocks make a path, for sundr_lookup(). Of count files there are L = (count + 15) / 16
+ * leaves, blocks 0 to L - 1 (one where count is 0); if L is above 1, then F = (L + 15) / 16 blocks
+ * of kind 4, L to L + F - 1; if F is above 1, then the root, L + F. File j, whose i-number is
+ * numbers[j], is in leaf j / 16, below block L + j / 256. So its path, root first, is
+ *
+ *     0                              where L is 1
+ *     L, j / 16                      where F is 1
+ *     L + F, L + j / 256, j / 16     otherwise.
+ *
+ * To show that an i-number is not there, take for j the last file whose number is below it; where
+ * there is none, the root alone is the path.
  *
  * Refused, with out as it was; tried in this order:
  *   SUNDR_LENGTH          count is above 4,096, or handles_len is not 32 * count.
@@ -230,8 +329,10 @@ uint64_t sundr_table_write(const uint64_t *numbers, size_t count,
  *
  * Reads the i-handle, the file's i-number, and the path: one to three blocks end to end, the root
  * first, each next one the child that the i-number leads to. Accepted: the first result is 1, and
- * the file's handle is in out[0..32); or it is 0, the table has no such file, and out is as it
- * was. The second result is 0.
+ * the file's handle is in out[0..32); or it is 0, the path shows no such file, and out is as it
+ * was. The second result is 0. In a table that sundr_table_write() made, a path that shows no such
+ * file says that there is none; in one made otherwise, the file may stand where its number does not
+ * lead, and no lookup finds it.
  *
  * Refused, with out as it was; SUNDR_LENGTH is tried first, then each block in its turn, its hash
  * before anything else in it, as far as the i-number leads:
