@@ -12,7 +12,7 @@ ghost use Rattle.layout.specs.Bytes.{bytes8};
 ghost use Rattle.itable.specs.Table.{files, block};
 ghost use Rattle.block.specs.Filled.{fits as fitsOf, filled};
 
-// Where the value stands in a slot, behind the number.
+// Where the value stands in a slot, after the number.
 const VALUE: usize = 8;
 
 // Writes one slot: a number and its value.

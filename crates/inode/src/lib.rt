@@ -59,7 +59,7 @@ fn holds(n: usize, len: usize) -> bool
     len <= BLOCK * n
 }
 
-// Whether of the n hashes that stand from a place on those behind the first m are zero.
+// Whether of the n hashes that stand from a place on those after the first m are zero.
 fn rest_zero(b: &[u8], at: usize, n: usize, m: usize) -> bool
     requires { ⌜ (at ≤ 65536) × (n ≤ 65536) × (m ≤ 1048576) ⌝ }
     ensures { λ r. ⌜ r ≡ restZero (now (b .entry)) at n m ⌝ }

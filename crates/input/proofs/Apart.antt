@@ -12,7 +12,7 @@ use lib.Seq.{take-at, drop-drop, take-length, length-take-le, getD-take, getD-dr
 use Rattle.layout.specs.Bytes.{part}
 use Rattle.input.specs.Form.{flag, memory, behindMemory, firstRecords}
 
--- The bytes between the flag and the place behind the remembered structure.
+-- The bytes between the flag and the place after the remembered structure.
 between : (t : Bool) (input : List ℕ) → take (cond t 133 35 - 35) (drop 35 input) ≡ cond t (take 98 (drop 35 input)) []
 between true input = refl
 between false input = refl
@@ -26,7 +26,7 @@ mark-is sent i =
     let e : 99 * i ≡ 99 * i + 0 = omega arith in
     ap (λ n. getD sent n 0) e ∙ (sym (getD-drop (99 * i) sent 0 0) ∙ sym (getD-take 99 (drop (99 * i) sent) 0 0 (omega arith)))
 
--- A record as it is lent: the 98 bytes behind its mark.
+-- A record as it is lent: the 98 bytes after its mark.
 lent : (sent : List ℕ) (i : ℕ) → take (99 * i + 99 - (99 * i + 1)) (drop (99 * i + 1) sent) ≡ drop 1 (part 99 sent i)
 lent sent i =
     let n : 99 * i + 99 - (99 * i + 1) ≡ 98 = omega arith in

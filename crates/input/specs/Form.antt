@@ -24,7 +24,7 @@ flag input = getD input 34 0
 unfoldable pub memory : List ℕ → List ℕ
 memory input = cond (eqb (flag input) 1) (take size (drop 35 input)) []
 
--- The place behind it.
+-- The place after it.
 unfoldable pub behindMemory : ℕ → ℕ
 behindMemory flag = cond (eqb flag 1) 133 35
 
@@ -49,7 +49,7 @@ marks input = firstMarks (sent input) (records input)
 abbrev pub list : List ℕ → List ℕ
 list input = firstRecords (sent input) (records input)
 
--- The input has all these parts and nothing behind them, and is not "over 1,717 bytes".
+-- The input has all these parts and nothing after them, and is not "over 1,717 bytes".
 unfoldable pub formed : List ℕ → Bool
 formed input =
     leb 35 (length input) &&

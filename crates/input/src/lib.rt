@@ -44,7 +44,7 @@ pub struct Report {
     pub counts: [u32; 16],
 }
 
-// The place behind the remembered structure, or behind the flag that says that there is none.
+// The place after the remembered structure, or after the flag that says that there is none.
 fn behind_memory(flag: u8) -> usize
     ensures { λ r. ⌜ (r ≡ behindMemory flag) × (35 ≤ r) ⌝ }
 {

@@ -26,7 +26,7 @@ pub record WellFormed (inode : List ℕ) : Type 0 where
   pub at-most : fileLength inode ≤ 131072
   pub rest-zero : RestZero inode 5 16 (fileLength inode)
 
--- 10: the file goes on behind k blocks of 8,192 bytes.
+-- 10: the file goes on after k blocks of 8,192 bytes.
 abbrev pub HasBlock : List ℕ → ℕ → Type 0
 HasBlock inode k = 8192 * k < fileLength inode
 

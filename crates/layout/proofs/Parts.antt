@@ -8,7 +8,7 @@ use lib.ListN.{length, take, drop, length-drop, drop-of-length-le, take-append-d
 use lib.Seq.{take-at, length-take-le, drop-append-add, take-nil, take-append-le, drop-append-le, take-take, drop-drop}
 use Rattle.layout.specs.Bytes.{part}
 
--- The first part, and the parts behind it.
+-- The first part, and the parts after it.
 pub part-front : (n : ℕ) (xs ys : List ℕ) → length xs ≡ n → part n (xs ++ ys) 0 ≡ xs
 part-front n xs ys h = let e : n * 0 ≡ 0 = omega arith in rw e (take-at xs ys n h)
 
@@ -30,7 +30,7 @@ part-append n xs ys i h =
     let l : n ≤ length (drop (n * i) xs) = simp length-drop (omega arith) in
     rw (drop-append-le (n * i) xs ys (omega arith), take-append-le n (drop (n * i) xs) ys l)
 
--- The parts behind m whole ones.
+-- The parts after m whole ones.
 pub part-behind-all : (n : ℕ) (xs ys : List ℕ) (m i : ℕ) → length xs ≡ n * m → part n (xs ++ ys) (m + i) ≡ part n ys i
 part-behind-all n xs ys m i h =
     let e : n * (m + i) ≡ length xs + n * i = mul-add n m i ∙ omega (arith, h) in

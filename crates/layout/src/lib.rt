@@ -19,7 +19,7 @@ fn rest(b: &[u8], at: usize) -> usize
     b.len() - at
 }
 
-// The byte k places behind another; 0 past the end.
+// The byte k places after another; 0 past the end.
 fn behind(b: &[u8], at: usize, k: usize) -> u8
     ensures { λ r. ⌜ r ≡ getD (now (b .entry)) (at + k) 0 ⌝ }
 {
@@ -43,7 +43,7 @@ pub fn join(a: u8, b: u8, c: u8, d: u8) -> u32
     (a as u32) * 16777216 + (b as u32) * 65536 + (c as u32) * 256 + (d as u32)
 }
 
-// The number in the four bytes k places behind another. Where all four are there, one test is
+// The number in the four bytes k places after another. Where all four are there, one test is
 // enough for all, and the compiler makes one load of them.
 fn quad(b: &[u8], at: usize, k: usize) -> u32
     requires { ⌜ k ≤ 4 ⌝ }

@@ -27,7 +27,7 @@ use Rattle.protocol.specs.Server.{empty, makeSteps, make, made, slot, he
 pub count-none : (v : ℕ) → count [] v ≡ 0
 count-none v = four-past [] (34 + 4 * v) (omega arith)
 
--- What stands behind a part that stands behind others.
+-- What stands after a part that stands after others.
 module _ (before x behind : List ℕ) (n o : ℕ) (b : length before ≡ n * o) (h : length x ≡ n) where
   drop-between : (d : ℕ) → drop (n * o + n + d) (before ++ (x ++ behind)) ≡ drop d behind
   drop-between d =

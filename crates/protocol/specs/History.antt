@@ -1,5 +1,5 @@
 -- Runs: any list of client calls, all with one number of users N, from empty memories. A run is written newest first, so that what stands
--- behind a call is what came earlier in the run.
+-- after a call is what came earlier in the run.
 use Prim.Native.Nat.{ℕ}
 use mathlib.Core.Bool.{cond}
 use mathlib.Core.List.{List, [], _∷_}

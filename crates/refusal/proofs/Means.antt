@@ -1,5 +1,5 @@
 -- What tests tried in order mean: a condition under which they pass, and for each refusal a condition under which it is given. Stages are
--- joined one behind the other, a later one under the conditions of those before it.
+-- joined one after the other, a later one under the conditions of those before it.
 use Prim.Native.Nat.{ℕ, _≤_, _<_}
 use mathlib.Core.Bool.{Bool, true, false, not}
 use mathlib.Core.List.{List, [], _∷_, _++_}

@@ -36,7 +36,7 @@ appended-copy xs out part at room h r e =
       front = rw f (take-at (take at out ++ xs) _ (at + length xs) (length-append (take at out) xs ∙ omega arith));
     }
 
--- One more number behind the first v.
+-- One more number after the first v.
 all-spaced-append : (s t : List ℕ) → allSpaced (s ++ t) ≡ allSpaced s ++ allSpaced t
 unfolding allSpaced
 all-spaced-append [] t = refl

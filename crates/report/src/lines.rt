@@ -1,4 +1,4 @@
-// The lines of a report. Each is written behind the one before it.
+// The lines of a report. Each is written after the one before it.
 use crate::text;
 use input::Outcome;
 use input::Report;

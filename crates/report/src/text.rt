@@ -1,4 +1,4 @@
-// Text and numbers, each written to a buffer behind what it already holds.
+// Text and numbers, each written to a buffer after what it already holds.
 ghost use Prim.Native.Nat.{_+_, _≤_};
 ghost use lib.ListN.{length, take};
 ghost use Rattle.report.specs.Printed.{spaced, allSpaced};

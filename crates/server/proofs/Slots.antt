@@ -22,7 +22,7 @@ module _ (s : Server) where
   pub length-held : (v : ℕ) → length (s .records) ≡ 1568 → v < 16 → (count (slot s v) v ≡ 0 → ⊥) → length (held s v) ≡ size
   length-held v l h n = rw (held-slot s v n) (part-length size (s .records) v (omega arith))
 
-  -- The held records of the next k users stand behind those of the first j.
+  -- The held records of the next k users stand after those of the first j.
   held-split : (i j k : ℕ) → heldFrom s i (j + k) ≡ heldFrom s i j ++ heldFrom s (i + j) k
   unfolding heldFrom
   held-split i zero k =
@@ -45,7 +45,7 @@ module _ (s : Server) where
       length (heldFrom s 0 (v + 1)) ≡ size * (n + 1)
   number-more v n r h e l = rw (held-more v) (simp length-append (omega (arith, length-held v r h e)))
 
-  -- Written behind what was written, the next user's record stands behind the earlier users'.
+  -- Written after what was written, the next user's record stands after the earlier users'.
   pub written-more :
       (v at next : ℕ) (out before after : List ℕ) → at ≡ length (heldFrom s 0 v) → next ≡ at + length (held s v) →
       out ≡ heldFrom s 0 v ++ drop at before → after ≡ take at out ++ (held s v ++ drop next out) →

@@ -81,7 +81,7 @@ module _ (m : List ℕ) (few : length m ≤ 65536) where
   rest-length : length (rest m) ≡ length m % 64
   rest-length = simp length-drop (omega arith)
 
-  -- Where the length fits behind the message's rest, one block is left.
+  -- Where the length fits after the message's rest, one block is left.
   one-block : length m % 64 < 56 →
       compressed (hashed m (length m / 64)) ((rest m ++ (128 ∷ replicate (59 - length m % 64) 0)) ++ bytes4 (8 * length m)) ≡
       hashed (padded m) (length (padded m) / 64)

@@ -1,4 +1,4 @@
--- The laws behind the proofs. Other crates cite `Laws`.
+-- The laws that the proofs rest on. Other crates cite `Laws`.
 pub mod Laws
 pub mod Constants
 pub mod Bits

@@ -58,6 +58,9 @@ zeroBits l = (960 - (l + 1) % 512) % 512
 unfoldable pub padded : List ℕ → List ℕ
 padded m = m ++ (128 ∷ (replicate ((zeroBits (8 * length m) - 7) / 8) 0 ++ bytes8 (8 * length m)))
 
+-- 5.2.1 and 3.1: the padded message is parsed into blocks of sixteen words. Block i of m is `part 64 m i`, and word t of a block b is
+-- `four b (4 * t)`, big-endian.
+
 -- 5.3.3: the initial hash value, the first thirty-two bits of the fractional parts of the square roots of the first eight primes.
 abbrev pub H0 : State
 H0 =
@@ -72,8 +75,6 @@ H0 =
       h = 0x5be0cd19;
     }
 
--- 5.2.1 and 3.1: the padded message is parsed into blocks of sixteen words. Block i of m is `part 64 m i`, and word t of a block b is
--- `four b (4 * t)`, big-endian.
 -- 6.2.2, step 1: the message schedule. Its first t words; the next is a word of the block for t below 16, and then
 -- σ1 (W (t - 2)) + W (t - 7) + σ0 (W (t - 15)) + W (t - 16).
 abbrev pub expanded : List ℕ → ℕ → ℕ

@@ -41,7 +41,7 @@ module _ (x y : List ℕ) (alike : (i : ℕ) → i < size → getD x i 0 ≡ get
   pub zero-alike : (N : ℕ) → every (λ v. eqb (count x v) 0) N (16 - N) ≡ every (λ v. eqb (count y v) 0) N (16 - N)
   zero-alike N = every-cong _ _ N (16 - N) (λ v a b. ap (λ n. eqb n 0) (count-alike v (omega arith)))
 
--- Its first 98 bytes alone; and with zeros behind, where it has fewer.
+-- Its first 98 bytes alone; and with zeros after, where it has fewer.
 pub first-alike : (x : List ℕ) (i : ℕ) → i < size → getD (take size x) i 0 ≡ getD x i 0
 first-alike x i h = getD-take size x i 0 h
 

@@ -45,7 +45,7 @@ module _ (f : ℕ → ℕ) (out b : List ℕ) (v : ℕ) (h : 4 * v + 4 ≤ lengt
       rw (w, t, sym (append-assoc (counts f 0 v) b (drop (4 * v + 4 - 4 * v) (drop (4 * v) out))))
       (take-at (counts f 0 v ++ b) _ (4 * (v + 1)) (length-append (counts f 0 v) b ∙ omega (arith, l, ap length e, length-bytes4 (f v))))
 
--- The handle h, copied behind the kind and the owner, and the counts cs behind it.
+-- The handle h, copied after the kind and the owner, and the counts cs after it.
 module _ (handle h : List ℕ) (u : ℕ) (m : length handle ≡ 32) (e : h ≡ take (length handle) handle ++ drop (length handle) (replicate 32 0)) where
   copied : h ≡ handle
   copied = e ∙ copied-over handle (replicate 32 0) (omega arith)

@@ -48,7 +48,7 @@ fn read_back(blocks: &[u8], u: usize, numbers: &mut [u64], hashes: &mut [u8])
     }
 }
 
-// Writes the w blocks of a kind over the n blocks from block `from` on, behind them.
+// Writes the w blocks of a kind over the n blocks from block `from` on, after them.
 pub(crate) fn inner(kind: u8, from: usize, n: usize, w: usize, out: &mut [u8])
     requires { ⌜ (w ≡ wide n) × (1 ≤ n) × (n ≤ 256) × (from ≤ 256) × (642 * (from + n + w) ≤ length (now out)) ⌝ }
     ensures { λ r. ⌜ now (out .exit) ≡ take (642 * (from + n)) (now (out .entry)) ++

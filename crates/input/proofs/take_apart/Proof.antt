@@ -1,4 +1,4 @@
--- Each turn copies one mark and one record, each behind the last.
+-- Each turn copies one mark and one record, each after the last.
 -- The invariant: the marks and records of the turns before are in place.
 use Prim.Native.Nat.{_*_, _-_, _≤_}
 use mathlib.Core.Path.{_≡_, refl, _∙_}

@@ -1,4 +1,4 @@
--- The byte no places behind.
+-- The byte no places on.
 use native.Mathlib.Nat.{add-zero}
 use borrow.Author.Needs.{needs}
 use Rattle.layout.proofs.byte_at.Statement.{statement}

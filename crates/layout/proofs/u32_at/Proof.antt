@@ -1,4 +1,4 @@
--- The number no places behind.
+-- The number no places on.
 use native.Mathlib.Nat.{add-zero}
 use borrow.Author.Needs.{needs}
 use Rattle.layout.proofs.u32_at.Statement.{statement}

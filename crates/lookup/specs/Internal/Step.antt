@@ -14,7 +14,7 @@ use Rattle.lookup.specs.declared.End.the-variants.{WrongHash, Malformed,
 use Rattle.lookup.specs.declared.Step.{Step}
 use Rattle.lookup.specs.declared.Step.the-variants.{Ends, Leads}
 
--- The answer where the lookup ends at the block b, which is block d of the path, with `left` blocks behind it.
+-- The answer where the lookup ends at the block b, which is block d of the path, with `left` blocks after it.
 abbrev pub ending : End → List ℕ → ℕ → ℕ → Answer Entry
 ending WrongHash b left d = refused 8 d 0
 ending Malformed b left d = refused 3 d 0
@@ -26,7 +26,7 @@ abbrev pub following : Step → List ℕ → ℕ → ℕ → (ℕ → Answer Ent
 following (Ends e) b left d on = ending e b left d
 following (Leads j) b left d on = on j
 
--- What a well-formed block b says of i, whatever stands behind it.
+-- What a well-formed block b says of i, whatever stands after it.
 pub record Searched (b : List ℕ) (i : ℕ) (r : Step) : Type 0 where
   pub says : (left d : ℕ) (on : ℕ → Answer Entry) → answerAt b i left (suc d) on ≡ following r b left d on
 

@@ -1,4 +1,4 @@
--- A copy into the part from the owner's place on puts the record there and keeps what is before and behind it.
+-- A copy into the part from the owner's place on puts the record there and keeps what is before and after it.
 -- There is no loop.
 use Prim.Native.Nat.{_-_, _*_}
 use mathlib.Core.Path.{_≡_}

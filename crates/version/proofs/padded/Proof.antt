@@ -1,4 +1,4 @@
--- The bytes, and zeros behind them.
+-- The bytes, and zeros after them.
 use Rattle.version.proofs.Laws.{padded-alike}
 use borrow.Author.Needs.{needs}
 use Rattle.version.proofs.padded.Statement.{statement}

@@ -1,4 +1,4 @@
--- The parts of the record are written one after the other, and each lies behind the last.
+-- The parts of the record are written one after the other, and each lies after the last.
 use Prim.Native.Nat.{ℕ}
 use mathlib.Core.List.{List, _∷_, _++_}
 use mathlib.Core.Path.{ap, _∙_}

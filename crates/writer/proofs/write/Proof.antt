@@ -1,4 +1,4 @@
--- The tests come first, and a refusal has written nothing. Each row is then written behind the one that it is over, and the table has as many rows
+-- The tests come first, and a refusal has written nothing. Each row is then written after the one that it is over, and the table has as many rows
 -- as are written here.
 use mathlib.Core.Path.{_∙_}
 use Rattle.itable.specs.Table.{files}

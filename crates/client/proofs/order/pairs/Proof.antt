@@ -1,5 +1,5 @@
 -- Every pair is compared, lowest place first, until one is apart.
--- The outer invariant: each structure passed is ordered with all behind it. The inner one: structure i is ordered with those passed.
+-- The outer invariant: each structure passed is ordered with all after it. The inner one: structure i is ordered with those passed.
 use Prim.Native.Nat.{ℕ, _≤_, _<_, _-_}
 use mathlib.Core.Bool.{true}
 use mathlib.Core.List.{List}

@@ -1,4 +1,4 @@
--- The word, the counts and the line's end are written one behind the other. There is no loop.
+-- The word, the counts and the line's end are written one after the other. There is no loop.
 use native.Mathlib.Omega.{arith}
 use borrow.Author.Needs.{needs}
 use Rattle.report.specs.Printed.{acceptLine}

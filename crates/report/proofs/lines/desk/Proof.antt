@@ -1,4 +1,4 @@
--- Each part is written behind the one before it, so the line is their concatenation. There is no loop.
+-- Each part is written after the one before it, so the line is their concatenation. There is no loop.
 use native.Mathlib.Omega.{arith}
 use borrow.Author.Needs.{needs}
 use Rattle.report.specs.Printed.{deskLine}

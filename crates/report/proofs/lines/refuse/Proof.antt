@@ -1,4 +1,4 @@
--- Each part is written behind the one before it, and the numbers are those that the refusal's row tells. There is no loop.
+-- Each part is written after the one before it, and the numbers are those that the refusal's row tells. There is no loop.
 use native.Mathlib.Omega.{arith}
 use borrow.Author.Needs.{needs}
 use Rattle.report.specs.Printed.{refuseLine}

@@ -1,4 +1,4 @@
--- The lines are those of the outcome, and the second stands behind the first. There is no loop.
+-- The lines are those of the outcome, and the second stands after the first. There is no loop.
 use native.Mathlib.Omega.{arith}
 use borrow.Author.Needs.{needs}
 use Rattle.report.proofs.Appending.{appended-more}

@@ -1,5 +1,5 @@
--- Each turn writes the next count behind the last, and the loop ends at the number of users or at sixteen, where all counts are written.
--- The invariant: the counts of the users below v stand behind the place, and each took 21 bytes at most.
+-- Each turn writes the next count after the last, and the loop ends at the number of users or at sixteen, where all counts are written.
+-- The invariant: the counts of the users below v stand after the place, and each took 21 bytes at most.
 use Prim.Native.Nat.{_+_, _*_, _-_, _≤_}
 use mathlib.Core.Path.{_≡_, sym, _∙_}
 use native.Mathlib.Omega.{arith}

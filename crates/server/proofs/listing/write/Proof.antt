@@ -1,5 +1,5 @@
--- Each user's record is written behind those of the users before it, so the held records stand at the front in the users' order.
--- The invariant: what is held of the users below v stands at the front, up to `at`, and behind it the buffer is as it was.
+-- Each user's record is written after those of the users before it, so the held records stand at the front in the users' order.
+-- The invariant: what is held of the users below v stands at the front, up to `at`, and after it the buffer is as it was.
 use Prim.Native.Nat.{_-_, _≤_}
 use mathlib.Core.List.{_++_}
 use mathlib.Core.Path.{_≡_, refl, _∙_}

@@ -152,7 +152,7 @@ module _ {M : Type 1} (𝓤 : URA M) (H : Heap 𝓤) (A : Atoms 𝓤) (at-mem : 
   abbrev Commit : Contract 𝓤
   Commit = tripleOf 𝓤 H A commit.signature (commit.spec 𝓤 H A at-mem run)
 
--- ---- the records are cut out of a list in memory, where they lie one byte behind its start, and put back
+-- ---- the records are cut out of a list in memory, where they lie one byte after its start, and put back
 abbrev as-list : (r : List ℕ) (b o : ℕ) → partAt Records fullShare r b o ≡ partAt Records fullShare (map (λ (x : ℕ). x) r) b o
 as-list r b o = list-same u8 1568 fullShare r b o
 

@@ -1,4 +1,4 @@
--- The test of the length is the definition's, and behind it the answer and the buffer are the server's, on the list that the bytes are. There is no loop.
+-- The test of the length is the definition's, and after it the answer and the buffer are the server's, on the list that the bytes are. There is no loop.
 use Prim.Native.Nat.{ℕ}
 use mathlib.Core.Path.{refl, sym, ap, _∙_}
 use Rattle.refusal.specs.Word.{answerWord}

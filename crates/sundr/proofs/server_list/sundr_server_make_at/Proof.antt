@@ -1,4 +1,4 @@
--- The test of the length is the definition's, and behind it the answer is the server's: where it refuses, no byte is written, and where it
+-- The test of the length is the definition's, and after it the answer is the server's: where it refuses, no byte is written, and where it
 -- passes, the list's bytes are. There is no loop.
 use mathlib.Core.Path.{refl, _∙_}
 use Rattle.refusal.proofs.Words.{gives-word}

@@ -1,4 +1,4 @@
--- The test of the buffer's length is the definition's; behind it the lookup's own answer says what the number is, and whether the handle is
+-- The test of the buffer's length is the definition's; after it the lookup's own answer says what the number is, and whether the handle is
 -- copied. There is no loop.
 use mathlib.Core.Path.{_≡_}
 use lib.ListN.{length}

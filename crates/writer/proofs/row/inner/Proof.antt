@@ -1,5 +1,5 @@
 -- Each turn reads the next sixteen blocks back, or those left, and fills the block over them at its own place.
--- The invariant: the blocks passed stand behind the n that they are over, and all other bytes are as they were.
+-- The invariant: the blocks passed stand after the n that they are over, and all other bytes are as they were.
 use Prim.Native.Nat.{_+_, _-_, _*_, _≤_}
 use mathlib.Core.List.{_++_}
 use mathlib.Core.Path.{_≡_, refl, _∙_}
