@@ -36,11 +36,11 @@ fn without_bodies(code: &str) -> String {
     text
 }
 
-/// The name that a declaration gives to a function, if it is one: a type, a name, a parenthesis.
+/// The name that a declaration gives to a function, if it is one: a type and a name stand before a parenthesis.
 fn function(declaration: &str) -> Option<&str> {
     let (before, _) = declaration.split_once('(')?;
-    let name = words(before).pop()?;
-    (words(before).len() > 1 && before.ends_with(name)).then_some(name)
+    let typed = before.chars().all(|c| c.is_alphanumeric() || c.is_whitespace() || c == '_' || c == '*');
+    words(before).pop().filter(|_| typed && words(before).len() > 1)
 }
 
 impl Header {
