@@ -120,7 +120,7 @@ fn misplaced(block: &Block, names: &[Span], files: &[Span], repository: &Reposit
     if between.trim() != "(" {
         return failures;
     }
-    for file in files.iter().filter(|file| matches!(Citation::of(&file.text), Citation::File)) {
+    for file in files {
         let Some(path) = repository.path(&file.text) else { continue };
         let words: Vec<_> = below(&path).iter().map(|file| words_of(file)).collect();
         for span in names {

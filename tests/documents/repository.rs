@@ -109,8 +109,8 @@ impl Repository {
             repository.add_crate(&name, &root.join("crates").join(&name));
         }
         let makefile = code(&root.join("Makefile"));
-        let targets =
-            makefile.lines().filter_map(|line| line.split_once(':')).flat_map(|(names, _)| names.split_whitespace());
+        let rules = makefile.lines().filter(|line| !line.starts_with('\t')).filter_map(|line| line.split_once(':'));
+        let targets = rules.flat_map(|(names, _)| names.split_whitespace());
         repository.targets = targets.map(str::to_string).collect();
         repository
     }
