@@ -4,6 +4,7 @@ use crate::markdown::{Block, Document, Span};
 use crate::repository::Repository;
 use crate::source::{below, words, words_of};
 use crate::Failures;
+use std::collections::HashSet;
 
 /// What stands in backticks, by its form.
 pub enum Citation<'a> {
@@ -122,11 +123,10 @@ fn misplaced(block: &Block, names: &[Span], files: &[Span], repository: &Reposit
     }
     for file in files {
         let Some(path) = repository.path(&file.text) else { continue };
-        let words: Vec<_> = below(&path).iter().map(|file| words_of(file)).collect();
+        let words: HashSet<String> = below(&path).iter().flat_map(|file| words_of(file)).collect();
         for span in names {
             let citation = Citation::of(&span.text);
-            let lacks = |name: &&str| !words.iter().any(|words| words.contains(*name));
-            let lacking = citation.names(&span.text).into_iter().filter(lacks);
+            let lacking = citation.names(&span.text).into_iter().filter(|name| !words.contains(*name));
             failures.extend(lacking.map(|name| format!("{}: `{}` has no word `{name}`", span.line, file.text)));
         }
     }
