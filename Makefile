@@ -50,4 +50,6 @@ install: lib desk
 uninstall:
 	rm -f $(archive) $(header) $(pc) $(program) $(program_page) $(library_page)
 
+# Two of these at once would write the same target/.
+.NOTPARALLEL:
 .PHONY: demo lib desk test bench install uninstall
