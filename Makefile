@@ -36,6 +36,7 @@ library_page = $(DESTDIR)$(MANDIR)/man3/sundr.3
 # The header alone states the version; it is filled in where the others have @VERSION@.
 version = $(shell sed -n 's/.*SUNDR_VERSION "\(.*\)"/\1/p' include/sundr.h)
 
+# The archive, the header, pkg-config's file, the desk program and the manual pages.
 install: lib desk
 	install -D -m 644 target/staticlib/libsundr.a $(archive)
 	install -D -m 644 include/sundr.h $(header)
