@@ -1,0 +1,53 @@
+/* The sentences that a user is shown for a refusal: one for each number that there is, and one for all others. */
+#include "sundr.h"
+
+#include <limits.h>
+#include <string.h>
+
+#include "check.h"
+
+/* One above the last refusal. */
+enum { REFUSALS = 13 };
+
+/* Whether a sentence fits one line of a log or a dialogue. */
+static int is_a_line(const char *text)
+{
+	return strlen(text) > 0 && strlen(text) <= 100 && strchr(text, '\n') == NULL;
+}
+
+/* Whether no number below this one has the same sentence. */
+static int is_its_own(unsigned number)
+{
+	unsigned other;
+
+	for (other = 0; other < number; other++)
+		if (strcmp(sundr_refusal_text(number), sundr_refusal_text(other)) == 0)
+			return 0;
+	return 1;
+}
+
+static int is(unsigned number, const char *due)
+{
+	return strcmp(sundr_refusal_text(number), due) == 0;
+}
+
+int main(void)
+{
+	static const unsigned others[] = {REFUSALS, 255, 256, 256 + SUNDR_UNORDERED, INT_MAX, UINT_MAX};
+	char name[64];
+	unsigned i;
+
+	for (i = 0; i < REFUSALS; i++) {
+		sprintf(name, "%u has a sentence of its own, on one line", i);
+		check(name, is_a_line(sundr_refusal_text(i)) && is_its_own(i));
+	}
+	check("5: rolled back or hidden", is(SUNDR_NOT_CURRENT,
+		"the server's list does not continue your last version: rolled back, or your record is hidden"));
+	check("7: forked", is(SUNDR_UNORDERED, "two versions stand apart: forked"));
+	check("13 is no refusal, and says so", is_a_line(sundr_refusal_text(REFUSALS)) && is_its_own(REFUSALS));
+	for (i = 1; i < sizeof others / sizeof others[0]; i++) {
+		sprintf(name, "%u has the sentence of 13", others[i]);
+		check(name, is(others[i], sundr_refusal_text(REFUSALS)));
+	}
+	return finish();
+}
