@@ -132,8 +132,8 @@ impl Contest {
 
     pub fn unit(&self) -> Unit {
         match self.measure {
-            Measure::Bytes => Unit { instructions: "a byte", digits: 1, speed: "MB/s", one: 1e6 },
-            Measure::Calls => Unit { instructions: "a call", digits: 0, speed: "thousand/s", one: 1e3 },
+            Measure::Bytes => Unit { instructions: " a byte", digits: 1, speed: "MB/s", one: 1e6 },
+            Measure::Calls => Unit { instructions: " a call", digits: 0, speed: "thousand calls/s", one: 1e3 },
         }
     }
 

@@ -50,8 +50,9 @@ pub struct Beside {
 
 /// What instructions are counted by, and speeds.
 pub struct Unit {
+    /// The words that follow a number of instructions.
     pub instructions: &'static str,
-    /// Instructions after the point: a byte's, but not a call's.
+    /// Its digits after the point: a byte takes few, a call many.
     pub digits: usize,
     pub speed: &'static str,
     /// How many bytes or calls a second are one of the speed's units.
@@ -69,13 +70,13 @@ pub fn table(rows: &[Row], commit: &str, machine: &str, runs: usize, rounds: usi
     format!(
         "Commit {commit}, on {machine}.
 
-| | instructions | stack, bytes | beside: its instructions | ratio (least to greatest) | speed |
+| | instructions | stack, bytes | beside, and its instructions | ratio (least to greatest) | speed |
 |---|--:|--:|---|--:|--:|
 {}
-Instructions are callgrind's, a byte hashed or a call; the stack is as deep as the call writes. Both are the same in
-every run. The ratio is the library's speed over the other's, taken within a round of turns: the median of the {}
-rounds of {runs} runs, and in brackets the least and the greatest of the runs' medians. No run is left out. Speeds are
-the library's on that machine, and move.
+Instructions are callgrind's, a byte hashed or a call; the stack is counted down to the lowest byte that the call
+writes. Both are the same in every run. The ratio is the library's speed over the other's, taken within a round of
+turns: the median of the {} rounds of {runs} runs, and in brackets the least and the greatest of the runs' medians. No
+run is left out. Speeds are the library's, by the processor's time on that machine, and move.
 ",
         rows.iter().map(lines).collect::<String>(),
         runs * rounds
@@ -84,14 +85,13 @@ the library's on that machine, and move.
 
 /// A row's lines, one for each other that is beside it; what is the library's stands in the first.
 fn lines(row: &Row) -> String {
-    let Unit { instructions: by, digits, .. } = row.unit;
-    let instructions = format!("{} {by}", count(row.instructions, digits));
+    let instructions = count(row.instructions, &row.unit, row.unit.instructions);
     let speed = format!("{} {}", grouped(row.speed / row.unit.one), row.unit.speed);
     let mut library = [row.work.clone(), instructions, grouped(row.stack as f64), speed];
     let mut lines = String::new();
     for beside in &row.besides {
         let [work, instructions, stack, speed] = std::mem::take(&mut library);
-        let other = format!("{}: {}", beside.name, count(beside.instructions, digits));
+        let other = format!("{}: {}", beside.name, count(beside.instructions, &row.unit, ""));
         let Ratio { median, least, greatest } = beside.ratio;
         let ratio = format!("{median:.2} ({least:.2} to {greatest:.2})");
         lines += &format!("| {work} | {instructions} | {stack} | {other} | {ratio} | {speed} |\n");
@@ -112,13 +112,14 @@ pub fn lengths(curves: &[Curve]) -> String {
     table
 }
 
-/// A number of instructions.
-fn count(instructions: Option<f64>, digits: usize) -> String {
-    match instructions {
-        Some(n) if digits > 0 => format!("{n:.digits$}"),
+/// A number of instructions, and the words that follow it.
+fn count(instructions: Option<f64>, unit: &Unit, words: &str) -> String {
+    let number = match instructions {
+        Some(n) if unit.digits > 0 => format!("{n:.*}", unit.digits),
         Some(n) => grouped(n),
-        None => "not counted".to_string(),
-    }
+        None => return "not counted".to_string(),
+    };
+    format!("{number}{words}")
 }
 
 /// A number, rounded, with a comma before each three digits.
