@@ -74,10 +74,10 @@ pub const CONTESTS: [Contest; 8] = [
         measure: Measure::Calls,
         sizes: &[16],
         rows: &[16],
-        go: 1_000_000,
+        go: 8_000_000,
         entries: &[entry("libsundr.a", "make_sundr"), entry(REFERENCE, "make_reference")],
     },
-    // A server that holds a record of each user, here and below.
+    // A server that holds a record of each user, here and in the next.
     Contest {
         title: "A server's list, 16 users",
         measure: Measure::Calls,

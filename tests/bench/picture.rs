@@ -36,7 +36,7 @@ pub fn draw(rows: &[Row], curves: &[Curve], commit: &str, runs: usize, rounds: u
     let title = format!("The SUNDR client library's speed at commit {commit}");
     page.text(24.0, 34.0, "start", "font-size='19' font-weight='bold'", &title);
     let note = format!(
-        "Bars: the median of the ratios of {} rounds. Whiskers: the least and the greatest of the medians of {runs} runs.",
+        "Bars: the median of {} rounds' ratios. Whiskers: the least and the greatest of {runs} runs' medians.",
         runs * rounds
     );
     page.text(24.0, 60.0, "start", "", &note);

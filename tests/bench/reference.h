@@ -7,7 +7,10 @@
 
 struct sundr_server;
 
-/* The check of a list that has a record of each user; the client's own is its memory. Gives 0, or the refusal's number. */
+/*
+ * The check of a list that has a record of each user; the client's own is its memory. Gives 0, or the
+ * refusal's number.
+ */
 uint8_t reference_check(uint8_t users, uint8_t user, const uint8_t list[16 * 98], const uint8_t marks[16],
 	const uint8_t handle[32], uint8_t out[98]);
 

@@ -1,4 +1,4 @@
-/* What the contenders of the server's calls work on: a server that holds a record of each user, and room for its list. */
+/* What the contenders of the server's calls work on: a server with a record of each user, and room for its list. */
 #ifndef SERVER_WORK_H
 #define SERVER_WORK_H
 
