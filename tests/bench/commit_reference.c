@@ -1,14 +1,9 @@
-#include "commit_server.h"
+#include "commit_record.h"
 #include "reference.h"
-
-void prepare(size_t size)
-{
-	fill(size);
-}
 
 void work(void)
 {
 	next();
-	if (reference_commit(&server, record, sizeof record, 1) != 0)
+	if (reference_commit(&held.server, record, sizeof record, 1) != 0)
 		abort();
 }

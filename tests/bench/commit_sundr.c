@@ -1,13 +1,8 @@
-#include "commit_server.h"
-
-void prepare(size_t size)
-{
-	fill(size);
-}
+#include "commit_record.h"
 
 void work(void)
 {
 	next();
-	if (sundr_server_commit(&server, record, sizeof record, 1) != SUNDR_ACCEPTED)
+	if (sundr_server_commit(&held.server, record, sizeof record, 1) != SUNDR_ACCEPTED)
 		abort();
 }

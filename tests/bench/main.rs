@@ -1,172 +1,128 @@
 //! The benchmark: calls of libsundr.a beside other implementations of the same.
 //!
-//! A round gives each contender each size in turn, so that whatever else the machine does
-//! falls on all alike; ratios are taken within a round.
+//! A round gives each contender each size in turn, so that whatever else the machine does falls on
+//! all alike; ratios are taken within a round. A run is a number of rounds, with processes of its
+//! own. Every round of every run counts.
+//!
+//!     bench FOLDER COMMIT MACHINE
+//!
+//! FOLDER has the contenders, and gets the table and the picture. COMMIT is what was measured,
+//! MACHINE where and with what. The table is printed too, and the numbers of the picture's curves.
 
 mod contender;
+mod contests;
+mod figures;
+mod picture;
 
-use contender::{Contender, Measure};
-use std::path::{Path, PathBuf};
+use contender::{Contender, Running};
+use contests::{Contest, CONTESTS};
+use figures::{median, Beside, Curve, Ratio, Row, Speeds};
+use std::path::Path;
 
-const ROUNDS: usize = 15;
+const RUNS: usize = 5;
+const ROUNDS: usize = 21;
 
-/// One piece of work: its title, the sizes of its inputs, and the contenders, the library first.
-struct Contest {
-    title: &'static str,
-    measure: Measure,
-    sizes: &'static [usize],
-    contenders: &'static [Entry],
+/// A contest, as it goes on.
+struct Field {
+    contest: &'static Contest,
+    contenders: Vec<Contender>,
+    /// Of each contender, at each size.
+    speeds: Vec<Vec<Speeds>>,
 }
 
-struct Entry {
-    name: &'static str,
-    program: &'static str,
-    /// OpenSSL's OPENSSL_ia32cap.
-    features: &'static str,
-}
-
-const CONTESTS: [Contest; 4] = [
-    Contest {
-        title: "SHA-256",
-        measure: Measure::Bytes,
-        sizes: &[64, 642, 8 << 10, 64 << 10],
-        contenders: &[
-            Entry { name: "libsundr.a", program: "sha256_sundr", features: "" },
-            Entry { name: "portable C, gcc -O2", program: "sha256_portable", features: "" },
-            Entry { name: "OpenSSL EVP", program: "sha256_openssl", features: "" },
-            Entry { name: "OpenSSL EVP, no SHA instructions", program: "sha256_openssl", features: ":~0x20000000" },
-            Entry {
-                name: "OpenSSL EVP, no vector code either",
-                program: "sha256_openssl",
-                features: "~0x1000020000000000:~0x20000128",
-            },
-        ],
-    },
-    Contest {
-        title: "A client's check of a list with a record of each user, accepted",
-        measure: Measure::Calls,
-        sizes: &[2, 8, 16],
-        contenders: &[
-            Entry { name: "libsundr.a", program: "check_sundr", features: "" },
-            Entry { name: "second implementation, rustc -O", program: "check_reference", features: "" },
-        ],
-    },
-    Contest {
-        title: "A commit to a server that holds a record of each user, accepted",
-        measure: Measure::Calls,
-        sizes: &[2, 8, 16],
-        contenders: &[
-            Entry { name: "libsundr.a", program: "commit_sundr", features: "" },
-            Entry { name: "second implementation, rustc -O", program: "commit_reference", features: "" },
-        ],
-    },
-    Contest {
-        title: "i-table: 4,096 files written (175,266 B), one looked up (3 blocks, 1,926 B), a file block checked",
-        measure: Measure::Bytes,
-        sizes: &[273 * 642, 3 * 642, 517 + 8_192],
-        contenders: &[
-            Entry { name: "libsundr.a", program: "itable_sundr", features: "" },
-            Entry { name: "its hashes alone, by libsundr.a", program: "itable_hashes", features: "" },
-        ],
-    },
-];
-
-impl Contest {
-    /// The unit of the speeds, in words and in a second's bytes or calls.
-    fn unit(&self) -> (&'static str, f64) {
-        match self.measure {
-            Measure::Bytes => ("MB/s", 1e6),
-            Measure::Calls => ("thousands a second", 1e3),
-        }
+impl Field {
+    fn new(contest: &'static Contest, built: &Path) -> Field {
+        let contenders = contest.contenders(built);
+        let speeds = vec![vec![Vec::new(); contest.sizes.len()]; contenders.len()];
+        Field { contest, contenders, speeds }
     }
 
-    /// What the instructions are counted by.
-    fn instructions(&self) -> &'static str {
-        match self.measure {
-            Measure::Bytes => "Instructions a byte, by callgrind. Its processor has no SHA instructions.",
-            Measure::Calls => "Instructions a call, by callgrind.",
-        }
-    }
-
-    /// A size, as a column's head.
-    fn size(&self, size: usize) -> String {
-        match self.measure {
-            Measure::Bytes => format!("{size} B"),
-            Measure::Calls => format!("{size} users"),
-        }
-    }
-}
-
-fn hold(contest: &Contest, built: &Path) {
-    let sizes = contest.sizes;
-    let mut contenders: Vec<Contender> = contest
-        .contenders
-        .iter()
-        .filter(|entry| built.join(entry.program).exists())
-        .map(|entry| Contender::start(entry.name, contest.measure, built.join(entry.program), entry.features))
-        .collect();
-
-    for &size in sizes {
-        let due = contenders[0].result(size);
-        for other in &contenders {
-            let size_in_words = contest.size(size);
-            assert_eq!(other.result(size), due, "{}: not the library's result at {size_in_words}", other.name);
-        }
-    }
-
-    // speeds[contender][size][round]
-    let mut speeds = vec![vec![Vec::new(); sizes.len()]; contenders.len()];
-    for _ in 0..ROUNDS {
-        for (i, &size) in sizes.iter().enumerate() {
-            for (contender, speeds) in contenders.iter_mut().zip(&mut speeds) {
-                speeds[i].push(contender.speed(size));
+    /// Who does not come to the library's result is no contender.
+    fn compare_results(&self) {
+        for &size in self.contest.sizes {
+            let due = self.contenders[0].result(size);
+            for other in &self.contenders {
+                let name = self.contest.name(size);
+                assert!(!due.is_empty() && other.result(size) == due, "{name}, {}: another result", other.name);
             }
         }
     }
 
-    let (unit, one) = contest.unit();
-    println!(
-        "{}.\nSpeed, {unit} (in brackets: the library's over this one's). Medians of {ROUNDS} interleaved rounds.",
-        contest.title
-    );
-    table(contest, &contenders, |c, i| {
-        let ratios = speeds[0][i].iter().zip(&speeds[c][i]).map(|(library, other)| library / other);
-        format!("{:.0} ({:.2})", median(speeds[c][i].clone()) / one, median(ratios.collect()))
-    });
-
-    println!("\n{}", contest.instructions());
-    table(contest, &contenders, |c, i| match contenders[c].instructions(sizes[i]) {
-        Some(n) if n < 1000.0 => format!("{n:.1}"),
-        Some(n) => format!("{n:.0}"),
-        None => "-".to_string(),
-    });
-
-    println!("\nBytes of stack, found by painting it.");
-    table(contest, &contenders, |c, i| contenders[c].stack(sizes[i]).to_string());
-}
-
-/// A line for each contender, a column for each size.
-fn table(contest: &Contest, contenders: &[Contender], cell: impl Fn(usize, usize) -> String) {
-    let line = |name: &str, cells: Vec<String>| {
-        println!("{name:36}{}", cells.iter().map(|cell| format!("{cell:>14}")).collect::<String>());
-    };
-    line("", contest.sizes.iter().map(|&size| contest.size(size)).collect());
-    for (c, contender) in contenders.iter().enumerate() {
-        line(contender.name, (0..contest.sizes.len()).map(|i| cell(c, i)).collect());
+    fn run(&mut self) {
+        let mut processes: Vec<Running> = self.contenders.iter().map(Contender::start).collect();
+        self.speeds.iter_mut().flatten().for_each(|speeds| speeds.push(Vec::new()));
+        for _ in 0..ROUNDS {
+            for (i, &size) in self.contest.sizes.iter().enumerate() {
+                let times = self.contest.times_a_go(size);
+                let amount = self.contest.amount(size, times);
+                for (process, speeds) in processes.iter_mut().zip(&mut self.speeds) {
+                    let run = speeds[i].last_mut().expect("this run");
+                    run.push(amount / process.seconds(size, times));
+                }
+            }
+        }
     }
-}
 
-fn median(mut values: Vec<f64>) -> f64 {
-    values.sort_by(f64::total_cmp);
-    values[values.len() / 2]
+    /// Instructions a byte or a call.
+    fn instructions(&self, contender: &Contender, size: usize) -> Option<f64> {
+        let times = self.contest.times_counted(size);
+        Some(contender.instructions(size, times)? / self.contest.amount(size, times))
+    }
+
+    fn rows(&self) -> Vec<Row> {
+        let sizes = self.contest.sizes.iter().enumerate().filter(|(_, size)| self.contest.rows.contains(size));
+        sizes.map(|(i, &size)| self.row(i, size)).collect()
+    }
+
+    fn row(&self, i: usize, size: usize) -> Row {
+        let library = &self.speeds[0][i];
+        let others = self.contenders.iter().zip(&self.speeds).skip(1);
+        Row {
+            work: self.contest.name(size),
+            unit: self.contest.unit(),
+            instructions: self.instructions(&self.contenders[0], size),
+            stack: self.contenders[0].stack(size),
+            speed: median(library.concat()),
+            besides: others
+                .map(|(other, speeds)| Beside {
+                    name: other.name,
+                    instructions: self.instructions(other, size),
+                    ratio: Ratio::new(library, &speeds[i]),
+                })
+                .collect(),
+        }
+    }
+
+    fn curves(&self) -> Vec<Curve> {
+        let points = |speeds: &Vec<Speeds>| speeds.iter().map(|speeds| median(speeds.concat())).collect::<Vec<f64>>();
+        self.contenders
+            .iter()
+            .zip(&self.speeds)
+            .map(|(contender, speeds)| Curve {
+                name: contender.name,
+                points: self.contest.sizes.iter().copied().zip(points(speeds)).collect(),
+            })
+            .collect()
+    }
 }
 
 fn main() {
-    let built = PathBuf::from(std::env::args().nth(1).expect("the folder of the contenders"));
-    for (i, contest) in CONTESTS.iter().enumerate() {
-        if i > 0 {
-            println!("\n");
-        }
-        hold(contest, &built);
+    let arguments: Vec<String> = std::env::args().skip(1).collect();
+    let [folder, commit, machine] = &arguments[..] else { panic!("bench FOLDER COMMIT MACHINE") };
+    let folder = Path::new(folder);
+
+    let mut fields: Vec<Field> = CONTESTS.iter().map(|contest| Field::new(contest, folder)).collect();
+    fields.iter().for_each(Field::compare_results);
+    for _ in 0..RUNS {
+        fields.iter_mut().for_each(Field::run);
     }
+    let rows: Vec<Row> = fields.iter().flat_map(Field::rows).collect();
+    // The hash's, which is the first.
+    let curves = fields[0].curves();
+
+    let table = figures::table(&rows, commit, machine, RUNS, ROUNDS);
+    let svg = picture::draw(&rows, &curves, commit, RUNS, ROUNDS);
+    std::fs::write(folder.join("figures.md"), &table).expect("a folder to write to");
+    std::fs::write(folder.join("figures.svg"), svg).expect("a folder to write to");
+    print!("{table}\n{}", figures::lengths(&curves));
 }

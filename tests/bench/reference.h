@@ -1,14 +1,26 @@
-/* The second implementation, tests/src/reference, as reference.rs exports it. Each gives 0, or the refusal's number. */
+/* The second implementation, tests/src/reference, as reference.rs exports it. */
 #ifndef REFERENCE_H
 #define REFERENCE_H
 
 #include <stddef.h>
 #include <stdint.h>
 
-/* The check of a list that has a record of each user; the client's own is its memory. */
+struct sundr_server;
+
+/*
+ * The check of a list that has a record of each user; the client's own is its memory. Gives 0, or the
+ * refusal's number.
+ */
 uint8_t reference_check(uint8_t users, uint8_t user, const uint8_t list[16 * 98], const uint8_t marks[16],
 	const uint8_t handle[32], uint8_t out[98]);
 
-uint8_t reference_commit(void *server, const uint8_t *record, size_t record_len, uint8_t mark);
+/* Gives 0, or the refusal's number. */
+uint8_t reference_make(uint8_t users, struct sundr_server *server);
+
+/* Gives the number of records. */
+uint32_t reference_list(const struct sundr_server *server, uint8_t out[16 * 98]);
+
+/* Gives 0, or the refusal's number. */
+uint8_t reference_commit(struct sundr_server *server, const uint8_t *record, size_t record_len, uint8_t mark);
 
 #endif

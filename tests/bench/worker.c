@@ -15,11 +15,12 @@
 
 #include "worker.h"
 
+/* The process's own time, in which other programs' turns are not. */
 static long long now(void)
 {
 	struct timespec t;
 
-	clock_gettime(CLOCK_MONOTONIC, &t);
+	clock_gettime(CLOCK_PROCESS_CPUTIME_ID, &t);
 	return t.tv_sec * 1000000000LL + t.tv_nsec;
 }
 

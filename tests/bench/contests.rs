@@ -1,0 +1,169 @@
+//! What is measured: each piece of work, its inputs' sizes, and who does it.
+
+use crate::contender::Contender;
+use crate::figures::{grouped, Unit};
+use std::path::Path;
+
+pub struct Contest {
+    pub title: &'static str,
+    measure: Measure,
+    /// The sizes of the inputs: bytes, or users.
+    pub sizes: &'static [usize],
+    /// Those of them that have a row in the table, and bars; the others are for the curves.
+    pub rows: &'static [usize],
+    /// How many of the bytes or users are worked through at one go: some 10 milliseconds.
+    go: usize,
+    /// The library first.
+    entries: &'static [Entry],
+}
+
+/// What speed and instructions are counted by.
+enum Measure {
+    /// Bytes that are hashed; a size is their number.
+    Bytes,
+    /// Calls; a size is a number of users.
+    Calls,
+}
+
+struct Entry {
+    name: &'static str,
+    program: &'static str,
+    /// OpenSSL's OPENSSL_ia32cap, nothing for what the processor has.
+    features: &'static str,
+    /// Whether it works by SHA instructions. The processor may not have them, and callgrind's has not.
+    sha: bool,
+}
+
+const fn entry(name: &'static str, program: &'static str) -> Entry {
+    Entry { name, program, features: "", sha: false }
+}
+
+const fn openssl(name: &'static str, features: &'static str, sha: bool) -> Entry {
+    Entry { name, program: "sha256_openssl", features, sha }
+}
+
+const REFERENCE: &str = "second implementation, rustc -O";
+const HASHES: &str = "its hashes alone";
+
+pub const CONTESTS: [Contest; 8] = [
+    Contest {
+        title: "SHA-256",
+        measure: Measure::Bytes,
+        sizes: &[64, 256, 1 << 10, 4 << 10, 16 << 10, 64 << 10],
+        rows: &[64 << 10],
+        go: 2 << 20,
+        entries: &[
+            entry("libsundr.a", "sha256_sundr"),
+            entry("portable C, gcc -O2", "sha256_portable"),
+            openssl("OpenSSL, plain x86-64 assembly", "~0x1000020000000000:~0x20000128", false),
+            openssl("OpenSSL, vector instructions", ":~0x20000000", false),
+            openssl("OpenSSL, SHA instructions", "", true),
+        ],
+    },
+    // A list with a record of each user, which is accepted.
+    Contest {
+        title: "A client's check",
+        measure: Measure::Calls,
+        sizes: &[16, 8, 2],
+        rows: &[16, 8, 2],
+        go: 200_000,
+        entries: &[entry("libsundr.a", "check_sundr"), entry(REFERENCE, "check_reference")],
+    },
+    Contest {
+        title: "A server made, 16 users",
+        measure: Measure::Calls,
+        sizes: &[16],
+        rows: &[16],
+        go: 8_000_000,
+        entries: &[entry("libsundr.a", "make_sundr"), entry(REFERENCE, "make_reference")],
+    },
+    // A server that holds a record of each user, here and in the next.
+    Contest {
+        title: "A server's list, 16 users",
+        measure: Measure::Calls,
+        sizes: &[16],
+        rows: &[16],
+        go: 1_000_000,
+        entries: &[entry("libsundr.a", "list_sundr"), entry(REFERENCE, "list_reference")],
+    },
+    Contest {
+        title: "A server's commit",
+        measure: Measure::Calls,
+        sizes: &[16, 8, 2],
+        rows: &[16, 8, 2],
+        go: 500_000,
+        entries: &[entry("libsundr.a", "commit_sundr"), entry(REFERENCE, "commit_reference")],
+    },
+    Contest {
+        title: "An i-table of 4,096 files",
+        measure: Measure::Bytes,
+        sizes: &[273 * 642],
+        rows: &[273 * 642],
+        go: 2 << 20,
+        entries: &[entry("libsundr.a", "itable_sundr"), entry(HASHES, "itable_hashes")],
+    },
+    Contest {
+        title: "A lookup along three blocks",
+        measure: Measure::Bytes,
+        sizes: &[3 * 642],
+        rows: &[3 * 642],
+        go: 2 << 20,
+        entries: &[entry("libsundr.a", "itable_sundr"), entry(HASHES, "itable_hashes")],
+    },
+    Contest {
+        title: "A check of an inode and a block",
+        measure: Measure::Bytes,
+        sizes: &[517 + 8_192],
+        rows: &[517 + 8_192],
+        go: 2 << 20,
+        entries: &[entry("libsundr.a", "itable_sundr"), entry(HASHES, "itable_hashes")],
+    },
+];
+
+impl Contest {
+    /// What is done, with the size where there are several.
+    pub fn name(&self, size: usize) -> String {
+        match self.measure {
+            _ if self.sizes.len() == 1 => self.title.to_string(),
+            Measure::Bytes => format!("{}, {} bytes", self.title, grouped(size as f64)),
+            Measure::Calls => format!("{}, {size} users", self.title),
+        }
+    }
+
+    pub fn unit(&self) -> Unit {
+        match self.measure {
+            Measure::Bytes => Unit { instructions: " a byte", digits: 1, speed: "MB/s", one: 1e6 },
+            Measure::Calls => Unit { instructions: " a call", digits: 0, speed: "thousand calls/s", one: 1e3 },
+        }
+    }
+
+    /// Those that were built, and that the processor can run.
+    pub fn contenders(&self, built: &Path) -> Vec<Contender> {
+        self.entries
+            .iter()
+            .filter(|entry| built.join(entry.program).exists() && (!entry.sha || is_x86_feature_detected!("sha")))
+            .map(|entry| Contender::new(entry.name, built.join(entry.program), entry.features, !entry.sha))
+            .collect()
+    }
+
+    /// How often the work is done at one go.
+    pub fn times_a_go(&self, size: usize) -> usize {
+        self.go / size
+    }
+
+    /// How often the work is done under callgrind, which is slow.
+    pub fn times_counted(&self, size: usize) -> usize {
+        match self.measure {
+            Measure::Bytes => (256 << 10) / size,
+            Measure::Calls => 2_000,
+        }
+    }
+
+    /// How many bytes or calls the work comes to, done so often.
+    pub fn amount(&self, size: usize, times: usize) -> f64 {
+        match self.measure {
+            Measure::Bytes => (size * times) as f64,
+            Measure::Calls => times as f64,
+        }
+    }
+}
