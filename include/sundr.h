@@ -23,13 +23,13 @@
  * A result or a position that a call's comment does not name is 0. A call that refuses has
  * not altered one lent byte.
  *
- * Stack. The bytes that a call takes, with what it takes to call it, measured by make bench and
- * not proved:
+ * Stack. The bytes that a call takes, with what it takes to call it, as make bench measures them
+ * (x86-64, accepted, with the most users); measured, not proved, so leave some to spare:
  *
- *     sundr_sha256           764        sundr_server_commit     676
- *     sundr_check          2,244        sundr_table_write     1,692
- *     sundr_server_make_at     ?        sundr_lookup          1,148
- *     sundr_server_list_at     ?        sundr_block_check       924
+ *     sundr_sha256             764        sundr_server_commit      676
+ *     sundr_check            2,244        sundr_table_write      1,692
+ *     sundr_server_make_at      24        sundr_lookup           1,148
+ *     sundr_server_list_at   1,800        sundr_block_check        924
  */
 #ifndef SUNDR_H
 #define SUNDR_H
