@@ -140,6 +140,7 @@ static void tell_chain(const uint8_t *record, const struct reply *reply, const u
 	hash_hex(reply->inode, sizeof reply->inode, inode);
 	hex(reply->inode + 5, first);
 	hash_hex(reply->block, reply->block_len, block);
+	must(strcmp(root, i_handle) == 0 && strcmp(inode, handle) == 0 && strcmp(block, first) == 0, "each link's hash");
 	tell("  link               hash        what it gives");
 	tell("  list               (checked)   record of user %u", sundr_owner(record));
 	tell("  record of user %u   (signed)    i-handle %s", sundr_owner(record), i_handle);
@@ -184,10 +185,11 @@ static void legend(void)
 	tell("read, the server cannot later hide from that user.\n");
 	tell("The library leaves it to its caller to make signatures and to check them. In this story every");
 	tell("signature is good, also those that a lying server sends.\n");
-	tell("What stands to the right of a bar is printed by the desk program, which makes the same check:\n");
+	tell("What stands to the right of a bar is printed by the desk program, which makes the same check by");
+	tell("itself and has to agree with the library:\n");
 	tell("  desk 1 of 2      user 1, of 2 users, checks the list");
 	tell("  accept 2 1       accepted: the new structure counts 2 operations of user 0 and 1 of user 1");
-	tell("  refuse 7 0 1     refused: the reason's number, and where it is: at records 0 and 1 of the list");
+	tell("  refuse 7 0 1     refused for reason 7, at records 0 and 1 of the list (0 0 where it names none)");
 }
 
 static void the_correction(struct client *maintainer, struct client *desk, struct sundr_server *server,
@@ -198,7 +200,7 @@ static void the_correction(struct client *maintainer, struct client *desk, struc
 	tell("The release desk fetches it. It has no files of its own, and signs an empty table's i-handle.");
 	fetch(desk, server, "channels 1 to 11", SHOWN);
 	*old_disk = *server;
-	tell("That is wrong, and the maintainer corrects it.");
+	tell("That is wrong: there are 13 channels.");
 	commit(maintainer, server, "channels 1 to 13");
 	tell("The release desk fetches the corrected table.");
 	fetch(desk, server, "channels 1 to 13", SHOWN);
@@ -228,8 +230,8 @@ static void the_old_disk(struct client *desk, const struct sundr_server *old_dis
 	uint64_t answer;
 
 	tell("\n2. The old disk\n");
-	tell("The host restores the disk of before the correction. The release desk, whose last structure");
-	tell("counts %u %u, fetches again, and is sent the list of that day:",
+	tell("The host restores the disk as it was before the correction. The release desk, whose last structure");
+	tell("counts %u %u, fetches again, and is sent the list of the old disk:",
 		sundr_count(desk->memory, MAINTAINER), sundr_count(desk->memory, RELEASE_DESK));
 	tell_list(&sent);
 	answer = check(desk, &sent, 1);
@@ -290,8 +292,9 @@ static void from_list_to_text(struct client *desk, struct sundr_server *server)
 {
 	tell("\n5. From the list to the text\n");
 	tell("The release desk fetches once more, and believes nothing that the server sends. The list has to");
-	tell("pass the check. Each further link must have the hash that the link before it gives; the hash of");
-	tell("a path, blocks of the i-table from its root to the leaf with the file, is that of the root.");
+	tell("pass the check; then each link gives a hash, which the next must have. The path is blocks of the");
+	tell("table of all files, from the root, whose hash is shown, to the leaf with file %d. The inode", CHANNEL_TABLE);
+	tell("lists the hashes of a file's blocks.");
 	fetch(desk, server, "channels 1 to 13", LINK_BY_LINK);
 }
 
@@ -310,15 +313,16 @@ static void try_reply(struct client *desk, struct sundr_server *server, const ch
 
 static void swapped_pieces(struct client *desk, struct sundr_server *server, const struct sundr_server *old_disk)
 {
-	const size_t leaf = 2 * SUNDR_TABLE_BLOCK_LEN;
+	/* Slot 0 of a server's list is the maintainer's. */
 	struct reply now = ask_server(sundr_i_handle(server->records), CHANNEL_TABLE);
 	struct reply old = ask_server(sundr_i_handle(old_disk->records), CHANNEL_TABLE);
 	struct reply lie;
+	const size_t leaf = 2 * SUNDR_TABLE_BLOCK_LEN;
 
 	tell("\n6. Swapped pieces\n");
 	tell("The list is good, but the server swaps one piece of the tree for that of the old disk. Each time");
-	tell("the release desk refuses, here with the number at a position: in a path, 0 is the root and 2 the");
-	tell("leaf; of a file, 0 is the inode and 1 the block.");
+	tell("the release desk refuses, with a number at a position. In a path, 0 is the root and 2 the leaf;");
+	tell("in a file, 0 is the inode and 1 the block.");
 	lie = now;
 	memcpy(lie.path, old.path, SUNDR_TABLE_BLOCK_LEN);
 	try_reply(desk, server, "root", &lie, 0);

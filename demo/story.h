@@ -27,7 +27,7 @@ struct sent {
 	size_t records;
 };
 
-/* desk.c: puts a check to the desk program, shows what it prints, and it has to be this answer of the library. */
+/* desk.c: puts a check to the desk program, and shows what it prints, which has to be the library's answer. */
 void show_desk(const struct client *client, const struct sent *sent, uint64_t answer, const uint8_t *next);
 extern const char *desk_program;
 
