@@ -172,8 +172,9 @@ static void fetch(struct client *desk, struct sundr_server *server, const char *
 
 static void legend(void)
 {
-	tell("SUNDR: files on a server that nobody has to trust. A story in six scenes.\n");
-	tell("  user 0, the maintainer     keeps a driver tree on the server: %d files, of which file %d is", FILES, CHANNEL_TABLE);
+	tell("\nSUNDR: files on a server that nobody has to trust. A story in six scenes.\n");
+	tell("  user 0, the maintainer     keeps a driver tree on the server: %d files, of which file %d is",
+		FILES, CHANNEL_TABLE);
 	tell("                             the channel table, the radio channels that a board may use");
 	tell("  user 1, the release desk   fetches the channel table, and builds boards with it");
 	tell("  the server                 a rented machine, which stores what both send, and may lie\n");
@@ -248,12 +249,13 @@ static void the_fork(struct client *maintainer, struct client *desk, struct sund
 	uint64_t answer;
 
 	tell("\n3. The fork\n");
-	tell("Now the server keeps two lists. Each user is shown one that lacks the other's new operations.");
+	tell("The host puts the new disk back. But now the server keeps two lists, and shows each user one");
+	tell("that lacks the other's new operations.");
 	commit(maintainer, server, "channels 1 to 13, 36 to 48");
-	tell("The release desk fetches, from the other list.");
+	tell("The release desk fetches, and is shown the other list.");
 	fetch(desk, &shown_to_desk, "channels 1 to 13", SHOWN);
 	commit(maintainer, server, "channels 1 to 13, 36 to 64");
-	tell("The release desk fetches, from the other list.");
+	tell("The release desk fetches, and is shown the other list.");
 	fetch(desk, &shown_to_desk, "channels 1 to 13", SHOWN);
 	tell("From one side nobody can see this: each list goes on from what its reader signed. But it is for");
 	tell("good. The server sends the release desk the last structures of both:");
