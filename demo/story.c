@@ -1,23 +1,16 @@
 /*
- * The order's story, replayed: a driver tree on a server that nobody trusts, a maintainer and a
- * release desk. Each step calls the library, and each check of a list that is shown is also put to
- * the desk program, whose own output stands behind a bar and has to say the same. Whatever comes
- * out otherwise than told ends the program with status 1.
+ * The order's story, replayed: a driver tree on a server that nobody trusts, a maintainer and a release desk. Each
+ * step calls the library, and each check of a list that is shown is also put to the desk program. Whatever comes out
+ * otherwise than told ends the program with status 1.
  *
  *     story PATH_OF_DESK
  */
-#define _POSIX_C_SOURCE 200809L
 #include <stdarg.h>
 #include <stdio.h>
 #include <stdlib.h>
 #include <string.h>
-#include <unistd.h>
 
-#include "sundr.h"
-
-enum { USERS = 2, MAINTAINER = 0, RELEASE = 1, FILES = 300, PLACE = 200, CHANNEL_TABLE = 4242 };
-
-static const char *desk;
+#include "story.h"
 
 static void tell(const char *format, ...)
 {
@@ -30,7 +23,7 @@ static void tell(const char *format, ...)
 	fflush(stdout);
 }
 
-static void must(int holds, const char *what)
+void must(int holds, const char *what)
 {
 	if (!holds) {
 		fprintf(stderr, "story: not as told: %s\n", what);
@@ -38,108 +31,40 @@ static void must(int holds, const char *what)
 	}
 }
 
-/* ---- A client: its user, and the structure that it signed last. ---- */
+static void must_accept(uint64_t answer, const char *what)
+{
+	must(sundr_refusal(answer) == SUNDR_ACCEPTED, what);
+}
 
-struct client {
-	uint8_t user;
-	uint8_t memory[SUNDR_VERSION_LEN];
-	size_t memory_len;
-};
+static void must_refuse(uint64_t answer, enum sundr_refusal_number number, uint32_t first, uint32_t second)
+{
+	must(sundr_refusal(answer) == number, "the refusal's number");
+	must(sundr_first(answer) == first && sundr_second(answer) == second, "the refusal's positions");
+}
 
-/* A server's list as it is sent: the records, and a good mark for each. */
-struct sent {
-	uint8_t list[SUNDR_MAX_USERS * SUNDR_VERSION_LEN];
-	uint8_t marks[SUNDR_MAX_USERS];
-	size_t records;
-};
+/* ---- An operation: the server's list is checked, and the new structure signed and committed. ---- */
 
 static struct sent send_list(const struct sundr_server *server)
 {
 	struct sent sent;
 	uint64_t answer = sundr_server_list(server, sent.list, sizeof sent.list);
 
-	must(sundr_refusal(answer) == SUNDR_ACCEPTED, "the listing");
+	must_accept(answer, "the listing");
 	sent.records = sundr_first(answer);
 	memset(sent.marks, 1, sizeof sent.marks);
 	return sent;
 }
 
-/* How many operations of a user a version structure counts. */
-static uint32_t count(const uint8_t *version, int user)
-{
-	const uint8_t *at = version + 34 + 4 * user;
-
-	return (uint32_t)at[0] << 24 | (uint32_t)at[1] << 16 | (uint32_t)at[2] << 8 | at[3];
-}
-
-/* The lines that say a check's answer, as the desk program has to print them. */
-static void say(uint8_t user, uint64_t answer, const uint8_t *next, char *lines, size_t size)
-{
-	int at = snprintf(lines, size, "desk %d of %d\n", user, USERS);
-
-	if (sundr_refusal(answer) == SUNDR_ACCEPTED)
-		snprintf(lines + at, size - at, "accept %u %u\n", count(next, MAINTAINER), count(next, RELEASE));
-	else
-		snprintf(lines + at, size - at, "refuse %d %u %u\n",
-			sundr_refusal(answer), sundr_first(answer), sundr_second(answer));
-}
-
-/* A check as the desk program's input, from the start of a file. */
-static FILE *input(const struct client *client, const struct sent *sent, const uint8_t *handle)
-{
-	FILE *file = tmpfile();
-	size_t i;
-
-	must(file != NULL, "a file for the desk program's input");
-	fputc(USERS, file);
-	fputc(client->user, file);
-	fwrite(handle, 1, SUNDR_HANDLE_LEN, file);
-	fputc(client->memory_len != 0, file);
-	fwrite(client->memory, 1, client->memory_len, file);
-	for (i = 0; i < sent->records; i++) {
-		fputc(sent->marks[i], file);
-		fwrite(sent->list + SUNDR_VERSION_LEN * i, 1, SUNDR_VERSION_LEN, file);
-	}
-	rewind(file);
-	return file;
-}
-
-/* Runs the desk program on an input, and shows what it prints, which has to be these lines. */
-static void show_desk(FILE *from, const char *due)
-{
-	char command[512], printed[512];
-	size_t len, i;
-	FILE *program;
-
-	must(dup2(fileno(from), STDIN_FILENO) == STDIN_FILENO, "the desk program's input");
-	fclose(from);
-	snprintf(command, sizeof command, "'%s'", desk);
-	program = popen(command, "r");
-	must(program != NULL, "the desk program");
-	len = fread(printed, 1, sizeof printed, program);
-	for (i = 0; i < len; i++)
-		printf("%s%c", i == 0 || printed[i - 1] == '\n' ? "    | " : "", printed[i]);
-	fflush(stdout);
-	must(pclose(program) == 0, "the desk program's end");
-	must(len == strlen(due) && memcmp(printed, due, len) == 0, "what the desk program prints");
-}
-
-/*
- * The client's check of what the server sent, by the library, and where it is shown by the desk
- * program too; accepted, the client signs the answer and remembers it.
- */
-static uint64_t check(struct client *client, const struct sent *sent, const uint8_t *handle, int shown)
+/* The client's check of a list. Accepted, the client signs its new structure and remembers it. */
+static uint64_t check(struct client *client, const struct sent *sent, int shown)
 {
 	uint8_t next[SUNDR_VERSION_LEN];
 	uint64_t answer = sundr_check(USERS, client->user, client->memory, client->memory_len,
 		sent->list, SUNDR_VERSION_LEN * sent->records, sent->marks, sent->records,
-		handle, SUNDR_HANDLE_LEN, next, sizeof next);
-	char lines[64];
+		client->i_handle, SUNDR_HANDLE_LEN, next, sizeof next);
 
-	if (shown) {
-		say(client->user, answer, next, lines, sizeof lines);
-		show_desk(input(client, sent, handle), lines);
-	}
+	if (shown)
+		show_desk(client, sent, answer, next);
 	if (sundr_refusal(answer) == SUNDR_ACCEPTED) {
 		memcpy(client->memory, next, sizeof next);
 		client->memory_len = sizeof next;
@@ -147,136 +72,291 @@ static uint64_t check(struct client *client, const struct sent *sent, const uint
 	return answer;
 }
 
-/* A whole turn at a server: list, check, commit. */
-static void turn(struct client *client, struct sundr_server *server, const uint8_t *handle, int shown)
+/* A turn that is accepted, at a server that takes it; gives the list that was checked. */
+static struct sent turn(struct client *client, struct sundr_server *server, int shown)
 {
 	struct sent sent = send_list(server);
 
-	must(sundr_refusal(check(client, &sent, handle, shown)) == SUNDR_ACCEPTED, "an honest turn's check");
-	must(sundr_refusal(sundr_server_commit(server, client->memory, client->memory_len, 1)) == SUNDR_ACCEPTED,
-		"an honest turn's commit");
+	must_accept(check(client, &sent, shown), "a turn's check");
+	must_accept(sundr_server_commit(server, client->memory, client->memory_len, 1), "a turn's commit");
+	return sent;
 }
 
-/* ---- A tree: three hundred files, one of them the channel table. ---- */
-
-struct tree {
-	uint8_t block[512];
-	uint8_t inode[SUNDR_INODE_LEN];
-	uint64_t numbers[FILES];
-	uint8_t handles[FILES * SUNDR_HANDLE_LEN];
-	uint8_t blocks[SUNDR_TABLE_MAX_BLOCKS * SUNDR_TABLE_BLOCK_LEN];
-	size_t block_count;
-	uint8_t i_handle[SUNDR_HANDLE_LEN];
-};
-
-static void hash(const uint8_t *bytes, size_t len, uint8_t *out)
+static void commit(struct client *maintainer, struct sundr_server *server, const char *channels)
 {
-	must(sundr_refusal(sundr_sha256(bytes, len, out, SUNDR_SHA256_LEN)) == SUNDR_ACCEPTED, "a hash");
+	tell("The maintainer commits a tree whose channel table says \"%s\".", channels);
+	upload_tree(channels, maintainer->i_handle);
+	turn(maintainer, server, 1);
 }
 
-static void grow(struct tree *tree, const char *channels)
+/* ---- A fetch: from an accepted list to a text, each link taken from what was accepted before it. ---- */
+
+/* The maintainer's record in a list that a check has accepted. */
+static const uint8_t *maintainers_record(const struct sent *accepted)
 {
-	uint64_t answer;
+	size_t i = 0;
+
+	while (i < accepted->records && sundr_owner(accepted->list + SUNDR_VERSION_LEN * i) != MAINTAINER)
+		i++;
+	must(i < accepted->records, "the maintainer's record");
+	return accepted->list + SUNDR_VERSION_LEN * i;
+}
+
+/* Judges a reply under an i-handle: its path, which gives the file handle, then its inode and block under that. */
+static uint64_t judge(const uint8_t *i_handle, const struct reply *reply, uint8_t *file_handle)
+{
+	uint64_t answer = sundr_lookup(i_handle, SUNDR_HANDLE_LEN, CHANNEL_TABLE,
+		reply->path, reply->path_len, file_handle, SUNDR_HANDLE_LEN);
+
+	if (sundr_refusal(answer) != SUNDR_ACCEPTED)
+		return answer;
+	must(sundr_first(answer) == 1, "the channel table's place in the i-table");
+	return sundr_block_check(file_handle, SUNDR_HANDLE_LEN, reply->inode, sizeof reply->inode, 0,
+		reply->block, reply->block_len);
+}
+
+/* The first four bytes of a hash, to be read. */
+static void hex(const uint8_t *hash, char *text)
+{
+	sprintf(text, "%02x%02x%02x%02x", hash[0], hash[1], hash[2], hash[3]);
+}
+
+static void hash_hex(const uint8_t *bytes, size_t len, char *text)
+{
+	uint8_t hash[SUNDR_SHA256_LEN];
+
+	must_accept(sundr_sha256(bytes, len, hash, sizeof hash), "a hash");
+	hex(hash, text);
+}
+
+/* The chain of an accepted fetch: the hash of each link is what the link before it gave. */
+static void tell_chain(const uint8_t *record, const struct reply *reply, const uint8_t *file_handle)
+{
+	char i_handle[9], root[9], handle[9], inode[9], first[9], block[9];
+
+	hex(sundr_i_handle(record), i_handle);
+	hash_hex(reply->path, SUNDR_TABLE_BLOCK_LEN, root);
+	hex(file_handle, handle);
+	hash_hex(reply->inode, sizeof reply->inode, inode);
+	hex(reply->inode + 5, first);
+	hash_hex(reply->block, reply->block_len, block);
+	must(strcmp(root, i_handle) == 0 && strcmp(inode, handle) == 0 && strcmp(block, first) == 0, "each link's hash");
+	tell("  link               hash        what it gives");
+	tell("  list               (checked)   record of user %u", sundr_owner(record));
+	tell("  record of user %u   (signed)    i-handle %s", sundr_owner(record), i_handle);
+	tell("  path of %u blocks   %s    file handle %s, for file %d",
+		(unsigned)(reply->path_len / SUNDR_TABLE_BLOCK_LEN), root, handle, CHANNEL_TABLE);
+	tell("  inode              %s    block hash %s", inode, first);
+	tell("  block              %s    \"%.*s\"", block, (int)reply->block_len, (const char *)reply->block);
+}
+
+enum how { QUIETLY, SHOWN, LINK_BY_LINK };
+
+/* A fetch by the release desk: its turn, then the channel table, which has to say this. */
+static void fetch(struct client *desk, struct sundr_server *server, const char *due, enum how how)
+{
+	struct sent accepted = turn(desk, server, how != QUIETLY);
+	const uint8_t *record = maintainers_record(&accepted);
+	struct reply reply = ask_server(sundr_i_handle(record), CHANNEL_TABLE);
+	uint8_t file_handle[SUNDR_HANDLE_LEN];
+
+	must_accept(judge(sundr_i_handle(record), &reply, file_handle), "the server's reply");
+	must(reply.block_len == strlen(due) && memcmp(reply.block, due, strlen(due)) == 0, "the channel table");
+	if (how == SHOWN)
+		tell("It reads \"%.*s\".", (int)reply.block_len, (const char *)reply.block);
+	else if (how == LINK_BY_LINK)
+		tell_chain(record, &reply, file_handle);
+}
+
+/* ---- The scenes. ---- */
+
+static void legend(void)
+{
+	tell("\nSUNDR: files on a server that nobody has to trust. A story in six scenes.\n");
+	tell("  user 0, the maintainer     keeps a driver tree on the server: %d files, of which file %d is",
+		FILES, CHANNEL_TABLE);
+	tell("                             the channel table, the radio channels that a board may use");
+	tell("  user 1, the release desk   fetches the channel table, and builds boards with it");
+	tell("  the server                 a rented machine, which stores what both send, and may lie\n");
+	tell("Each operation of a user ends with a version structure, a small record that this user signs. It");
+	tell("counts the operations of each user that its signer has seen, and holds the i-handle: a hash, by");
+	tell("which all files of the signer can be checked. The server's list has the last structure of each");
+	tell("user. A client checks the list, and only if it accepts does it sign its own next structure.\n");
+	tell("A fetch is an operation too, and is signed too. So reading leaves a trace: what a user has once");
+	tell("read, the server cannot later hide from that user.\n");
+	tell("The library leaves it to its caller to make signatures and to check them. In this story every");
+	tell("signature is good, also those that a lying server sends.\n");
+	tell("What stands to the right of a bar is printed by the desk program, which makes the same check by");
+	tell("itself and has to agree with the library:\n");
+	tell("  desk 1 of 2      user 1, of 2 users, checks the list");
+	tell("  accept 2 1       accepted: the new structure counts 2 operations of user 0 and 1 of user 1");
+	tell("  refuse 7 0 1     refused for reason 7, at records 0 and 1 of the list (0 0 where it names none)");
+}
+
+static void the_correction(struct client *maintainer, struct client *desk, struct sundr_server *server,
+	struct sundr_server *old_disk)
+{
+	tell("\n1. The correction\n");
+	commit(maintainer, server, "channels 1 to 11");
+	tell("The release desk fetches it. It has no files of its own, and signs an empty table's i-handle.");
+	fetch(desk, server, "channels 1 to 11", SHOWN);
+	*old_disk = *server;
+	tell("That is wrong: there are 13 channels.");
+	commit(maintainer, server, "channels 1 to 13");
+	tell("The release desk fetches the corrected table.");
+	fetch(desk, server, "channels 1 to 13", SHOWN);
+}
+
+static void tell_list(const struct sent *sent)
+{
 	size_t i;
 
-	memset(tree, 0, sizeof *tree);
-	strncpy((char *)tree->block, channels, sizeof tree->block);
-	tree->inode[0] = 6;
-	tree->inode[3] = sizeof tree->block / 256;
-	hash(tree->block, sizeof tree->block, tree->inode + 5);
-	for (i = 0; i < FILES; i++) {
-		tree->numbers[i] = CHANNEL_TABLE - PLACE + i;
-		tree->handles[SUNDR_HANDLE_LEN * i] = (uint8_t)i;
+	for (i = 0; i < sent->records; i++) {
+		const uint8_t *record = sent->list + SUNDR_VERSION_LEN * i;
+
+		tell("  record %u, of user %u, counts %u %u", (unsigned)i, sundr_owner(record),
+			sundr_count(record, MAINTAINER), sundr_count(record, RELEASE_DESK));
 	}
-	hash(tree->inode, sizeof tree->inode, tree->handles + SUNDR_HANDLE_LEN * PLACE);
-	answer = sundr_table_write(tree->numbers, FILES, tree->handles, sizeof tree->handles,
-		tree->blocks, sizeof tree->blocks);
-	must(sundr_refusal(answer) == SUNDR_ACCEPTED, "writing the i-table");
-	tree->block_count = sundr_first(answer);
-	hash(tree->blocks + SUNDR_TABLE_BLOCK_LEN * (tree->block_count - 1), SUNDR_TABLE_BLOCK_LEN, tree->i_handle);
 }
 
-/* The path to the channel table: the root, the block under it, the leaf. */
-static void path_to(const struct tree *tree, uint8_t *path)
+static void tell_refusal(uint64_t answer)
 {
-	size_t leaves = (FILES + 15) / 16, leaf = PLACE / 16;
-	size_t at[3] = { tree->block_count - 1, leaves + leaf / 16, leaf };
-	size_t i;
+	tell("Refused with %d:", sundr_refusal(answer));
+	tell("  \"%s\"", sundr_refusal_text(sundr_refusal(answer)));
+}
 
-	for (i = 0; i < 3; i++)
-		memcpy(path + SUNDR_TABLE_BLOCK_LEN * i, tree->blocks + SUNDR_TABLE_BLOCK_LEN * at[i], SUNDR_TABLE_BLOCK_LEN);
+static void the_old_disk(struct client *desk, const struct sundr_server *old_disk)
+{
+	struct sent sent = send_list(old_disk);
+	uint64_t answer;
+
+	tell("\n2. The old disk\n");
+	tell("The host restores the disk as it was before the correction. The release desk, whose last structure");
+	tell("counts %u %u, fetches again, and is sent the list of the old disk:",
+		sundr_count(desk->memory, MAINTAINER), sundr_count(desk->memory, RELEASE_DESK));
+	tell_list(&sent);
+	answer = check(desk, &sent, 1);
+	must_refuse(answer, SUNDR_NOT_CURRENT, 0, 0);
+	tell_refusal(answer);
+	tell("The release desk has signed that it saw the correction, and the list is from before that. So no");
+	tell("board is built with the old table. Once, without this check, four thousand were.");
+}
+
+static void the_fork(struct client *maintainer, struct client *desk, struct sundr_server *server)
+{
+	struct sundr_server shown_to_desk = *server;
+	struct sent sent;
+	uint64_t answer;
+
+	tell("\n3. The fork\n");
+	tell("The host puts the new disk back. But now the server keeps two lists, and shows each user one");
+	tell("that lacks the other's new operations.");
+	commit(maintainer, server, "channels 1 to 13, 36 to 48");
+	tell("The release desk fetches, and is shown the other list.");
+	fetch(desk, &shown_to_desk, "channels 1 to 13", SHOWN);
+	commit(maintainer, server, "channels 1 to 13, 36 to 64");
+	tell("The release desk fetches, and is shown the other list.");
+	fetch(desk, &shown_to_desk, "channels 1 to 13", SHOWN);
+	tell("From one side nobody can see this: each list goes on from what its reader signed. But it is for");
+	tell("good. The server sends the release desk the last structures of both:");
+	sent = send_list(server);
+	memcpy(sent.list + SUNDR_VERSION_LEN, desk->memory, sizeof desk->memory);
+	tell_list(&sent);
+	answer = check(desk, &sent, 1);
+	must_refuse(answer, SUNDR_UNORDERED, 0, 1);
+	tell_refusal(answer);
+	tell("Each record lacks operations that the other counts. It is proved that no client ever accepts a");
+	tell("list with both, or with later ones, as long as no signature is forged. So the server has to keep");
+	tell("the two users apart for good, and one telephone call between them shows it.");
+}
+
+static void honest_turns(struct client *maintainer, struct client *desk, struct sundr_server *server)
+{
+	struct sent last;
+	int i;
+
+	tell("\n4. A thousand honest turns\n");
+	tell("The same two users, from the start, at an honest server.");
+	must_accept(sundr_server_make(USERS, server), "an empty server");
+	maintainer->memory_len = desk->memory_len = 0;
+	upload_tree("channels 1 to 13", maintainer->i_handle);
+	for (i = 0; i < 1000; i++)
+		if (i % 3 < 2)
+			turn(maintainer, server, 0);
+		else
+			fetch(desk, server, "channels 1 to 13", QUIETLY);
+	last = send_list(server);
+	tell("%d turns, and none is refused: %u of the maintainer and %u of the release desk.", i,
+		sundr_count(maintainers_record(&last), MAINTAINER), sundr_count(desk->memory, RELEASE_DESK));
+}
+
+static void from_list_to_text(struct client *desk, struct sundr_server *server)
+{
+	tell("\n5. From the list to the text\n");
+	tell("The release desk fetches once more, and believes nothing that the server sends. The list has to");
+	tell("pass the check; then each link gives a hash, which the next must have. The path is blocks of the");
+	tell("table of all files, from the root, whose hash is shown, to the leaf with file %d. The inode", CHANNEL_TABLE);
+	tell("lists the hashes of a file's blocks.");
+	fetch(desk, server, "channels 1 to 13", LINK_BY_LINK);
+}
+
+/* A fetch that gets this reply, and has to refuse it at this position. */
+static void try_reply(struct client *desk, struct sundr_server *server, const char *what,
+	const struct reply *reply, uint32_t position)
+{
+	struct sent accepted = turn(desk, server, 0);
+	uint8_t file_handle[SUNDR_HANDLE_LEN];
+	uint64_t answer = judge(sundr_i_handle(maintainers_record(&accepted)), reply, file_handle);
+
+	must_refuse(answer, SUNDR_WRONG_HASH, position, 0);
+	tell("  %-7s%d at %u   %s", what, sundr_refusal(answer), sundr_first(answer),
+		sundr_refusal_text(sundr_refusal(answer)));
+}
+
+static void swapped_pieces(struct client *desk, struct sundr_server *server, const struct sundr_server *old_disk)
+{
+	/* Slot 0 of a server's list is the maintainer's. */
+	struct reply now = ask_server(sundr_i_handle(server->records), CHANNEL_TABLE);
+	struct reply old = ask_server(sundr_i_handle(old_disk->records), CHANNEL_TABLE);
+	struct reply lie;
+	const size_t leaf = 2 * SUNDR_TABLE_BLOCK_LEN;
+
+	tell("\n6. Swapped pieces\n");
+	tell("The list is good, but the server swaps one piece of the tree for that of the old disk. Each time");
+	tell("the release desk refuses, with a number at a position. In a path, 0 is the root and 2 the leaf;");
+	tell("in a file, 0 is the inode and 1 the block.");
+	lie = now;
+	memcpy(lie.path, old.path, SUNDR_TABLE_BLOCK_LEN);
+	try_reply(desk, server, "root", &lie, 0);
+	lie = now;
+	memcpy(lie.path + leaf, old.path + leaf, SUNDR_TABLE_BLOCK_LEN);
+	try_reply(desk, server, "leaf", &lie, 2);
+	lie = now;
+	memcpy(lie.inode, old.inode, sizeof lie.inode);
+	try_reply(desk, server, "inode", &lie, 0);
+	lie = now;
+	memcpy(lie.block, old.block, sizeof lie.block);
+	try_reply(desk, server, "block", &lie, 1);
 }
 
 int main(int argc, char **argv)
 {
-	static struct tree old, corrected;
-	struct client maintainer = { MAINTAINER, { 0 }, 0 };
-	struct client release = { RELEASE, { 0 }, 0 };
-	struct sundr_server server, old_disk, shown_to_release;
-	struct sent sent;
-	uint8_t path[3 * SUNDR_TABLE_BLOCK_LEN], handle[SUNDR_HANDLE_LEN];
-	uint64_t answer;
-	int i;
+	struct client maintainer = { MAINTAINER, { 0 }, { 0 }, 0 };
+	struct client desk = { RELEASE_DESK, { 0 }, { 0 }, 0 };
+	struct sundr_server server, old_disk;
 
 	must(argc == 2, "usage: story PATH_OF_DESK");
-	desk = argv[1];
-	grow(&old, "channels 1 to 11");
-	grow(&corrected, "channels 1 to 13");
-	must(sundr_refusal(sundr_server_make(USERS, &server)) == SUNDR_ACCEPTED, "an empty server");
+	desk_program = argv[1];
+	upload_nothing(desk.i_handle);
+	must_accept(sundr_server_make(USERS, &server), "an empty server");
 
-	tell("The maintainer commits the driver tree, of %d files.", FILES);
-	turn(&maintainer, &server, old.i_handle, 1);
-	tell("The release desk fetches it.");
-	turn(&release, &server, old.i_handle, 1);
-	old_disk = server;
-	tell("The maintainer commits the corrected channel table.");
-	turn(&maintainer, &server, corrected.i_handle, 1);
-	tell("The release desk fetches the corrected table.");
-	turn(&release, &server, corrected.i_handle, 1);
-
-	tell("\nThe host restores an old disk. The release desk is shown the tree of before:");
-	sent = send_list(&old_disk);
-	answer = check(&release, &sent, corrected.i_handle, 1);
-	must(sundr_refusal(answer) == SUNDR_NOT_CURRENT, "the old disk");
-	tell("Refused with %d: the list has not the desk's own last structure. No board is built from it.", sundr_refusal(answer));
-
-	tell("\nThe server forks the two: from here each is shown a list without the other's work.");
-	shown_to_release = server;
-	for (i = 0; i < 3; i++) {
-		tell("The maintainer goes on.");
-		turn(&maintainer, &server, corrected.i_handle, 1);
-		tell("The release desk goes on, at the other list.");
-		turn(&release, &shown_to_release, corrected.i_handle, 1);
-	}
-	tell("The server shows the release desk both sides, every signature good:");
-	sent = send_list(&server);
-	memcpy(sent.list + SUNDR_VERSION_LEN, release.memory, sizeof release.memory);
-	answer = check(&release, &sent, corrected.i_handle, 1);
-	must(sundr_refusal(answer) == SUNDR_UNORDERED && sundr_first(answer) == 0 && sundr_second(answer) == 1, "the joined fork");
-	tell("Refused with %d: structures %u and %u are apart, and no list will ever join them again.",
-		sundr_refusal(answer), sundr_first(answer), sundr_second(answer));
-
-	tell("\nAn honest server, from the start: a thousand turns of both.");
-	must(sundr_refusal(sundr_server_make(USERS, &server)) == SUNDR_ACCEPTED, "an empty server");
-	maintainer.memory_len = release.memory_len = 0;
-	for (i = 0; i < 1000; i++)
-		turn(i % 3 ? &maintainer : &release, &server, corrected.i_handle, 0);
-	tell("Never refused.");
-
-	tell("\nThe release desk fetches file %d under the corrected i-handle, with its path of three blocks.", CHANNEL_TABLE);
-	path_to(&corrected, path);
-	answer = sundr_lookup(corrected.i_handle, sizeof corrected.i_handle, CHANNEL_TABLE, path, sizeof path, handle, sizeof handle);
-	must(sundr_refusal(answer) == SUNDR_ACCEPTED && sundr_first(answer) == 1, "the lookup");
-	answer = sundr_block_check(handle, sizeof handle, corrected.inode, sizeof corrected.inode, 0,
-		corrected.block, sizeof corrected.block);
-	must(sundr_refusal(answer) == SUNDR_ACCEPTED, "the file's block");
-	tell("Found; its block 0, %u bytes at offset %u, reads \"%s\".", sundr_second(answer), sundr_first(answer), (const char *)corrected.block);
-	answer = sundr_block_check(handle, sizeof handle, corrected.inode, sizeof corrected.inode, 0, old.block, sizeof old.block);
-	must(sundr_refusal(answer) == SUNDR_WRONG_HASH && sundr_first(answer) == 1, "a swapped file block");
-	tell("The old block in its place is refused with %d, at position %u.", sundr_refusal(answer), sundr_first(answer));
-	memcpy(path + 2 * SUNDR_TABLE_BLOCK_LEN, old.blocks + SUNDR_TABLE_BLOCK_LEN * (PLACE / 16), SUNDR_TABLE_BLOCK_LEN);
-	answer = sundr_lookup(corrected.i_handle, sizeof corrected.i_handle, CHANNEL_TABLE, path, sizeof path, handle, sizeof handle);
-	must(sundr_refusal(answer) == SUNDR_WRONG_HASH && sundr_first(answer) == 2, "a swapped leaf");
-	tell("The old leaf in the path is refused with %d, at block %u.", sundr_refusal(answer), sundr_first(answer));
+	legend();
+	the_correction(&maintainer, &desk, &server, &old_disk);
+	the_old_disk(&desk, &old_disk);
+	the_fork(&maintainer, &desk, &server);
+	honest_turns(&maintainer, &desk, &server);
+	from_list_to_text(&desk, &server);
+	swapped_pieces(&desk, &server, &old_disk);
+	tell("\nAll came out as told, in the library and, where a bar stands, in the desk program too.");
 	return 0;
 }

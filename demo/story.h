@@ -1,0 +1,52 @@
+/*
+ * The parts of the story. What a client holds is its struct client. The maintainer's tree and the server's blocks
+ * are private to their files: the release desk has a list and a reply, and no other way to them.
+ */
+#ifndef STORY_H
+#define STORY_H
+
+#include "sundr.h"
+
+enum { USERS = 2, MAINTAINER = 0, RELEASE_DESK = 1, FILES = 300, CHANNEL_TABLE = 4242 };
+
+/* Ends the program with status 1 unless this holds. */
+void must(int holds, const char *what);
+
+/* A client: its user, the i-handle of its own files, and the structure that it signed last. */
+struct client {
+	uint8_t user;
+	uint8_t i_handle[SUNDR_HANDLE_LEN];
+	uint8_t memory[SUNDR_VERSION_LEN];
+	size_t memory_len;
+};
+
+/* A server's list as it is sent: the records, and a good mark for each. */
+struct sent {
+	uint8_t list[SUNDR_MAX_USERS * SUNDR_VERSION_LEN];
+	uint8_t marks[SUNDR_MAX_USERS];
+	size_t records;
+};
+
+/* desk.c: puts a check to the desk program, and shows what it prints, which has to be the library's answer. */
+void show_desk(const struct client *client, const struct sent *sent, uint64_t answer, const uint8_t *next);
+extern const char *desk_program;
+
+/* blocks.c: the server's blocks, each under its hash, and what it replies when it is asked for a file. */
+enum { BLOCK_MAX = SUNDR_TABLE_BLOCK_LEN };
+
+struct reply {
+	uint8_t path[SUNDR_PATH_MAX_BLOCKS * SUNDR_TABLE_BLOCK_LEN];
+	size_t path_len;
+	uint8_t inode[SUNDR_INODE_LEN];
+	uint8_t block[BLOCK_MAX];
+	size_t block_len;
+};
+
+void upload_block(const uint8_t *bytes, size_t len, uint8_t *hash);
+struct reply ask_server(const uint8_t *i_handle, uint64_t number);
+
+/* tree.c: a user's files, made into blocks and uploaded; the i-handle is all that stays with the user. */
+void upload_tree(const char *channels, uint8_t *i_handle);
+void upload_nothing(uint8_t *i_handle);
+
+#endif
