@@ -1,22 +1,27 @@
 # The main job: builds the library and the desk program, and replays the order's story through them.
-demo: lib desk
+demo:
+	@tools/prove desk sundr
 	@demo/run
 
 # The library, for C and Rust to link: target/staticlib/libsundr.a, with include/sundr.h.
 lib:
-	@rt staticlib sundr
+	@tools/prove sundr
 
 # The desk program: target/bin/desk.
 desk:
-	@rt check desk
+	@tools/prove desk
 
 # All proofs from nothing, then all tests. The last line is 'N passed, 0 failed'.
 test:
 	@tests/run
 
-# Speed, instructions and stack, beside portable C and OpenSSL, or the second implementation.
+# Instructions, stack and speed, beside portable C and OpenSSL, or the second implementation.
 bench: lib
 	@tests/bench/run
+
+# The same, kept in the README and in docs/figures.svg, with the commit's name.
+figures: lib
+	@tests/bench/run --keep
 
 # Where things are installed. PREFIX is where they will be used; DESTDIR, if given, stands before each path that is
 # written, and in none of the files.
@@ -53,4 +58,4 @@ uninstall:
 
 # Two of these at once would write the same target/.
 .NOTPARALLEL:
-.PHONY: demo lib desk test bench install uninstall
+.PHONY: demo lib desk test bench figures install uninstall
