@@ -2,7 +2,7 @@
 
 use crate::markdown::{Block, Document, Span};
 use crate::repository::Repository;
-use crate::source::{below, words, words_of};
+use crate::source::{below, names_of, words};
 use crate::Failures;
 use std::collections::HashSet;
 
@@ -103,10 +103,10 @@ fn missing(text: &str, repository: &Repository) -> Vec<String> {
     }
 }
 
-/// Whether two citations stand together: only a comma, "and" or "or" is between them.
+/// Whether two citations stand together: only a comma, "and", "or" or "in" is between them.
 fn joined(block: &Block, left: &Span, right: &Span) -> bool {
     let between: Vec<&str> = block.text[left.place.end..right.place.start].split_whitespace().collect();
-    matches!(between[..], [","] | ["and"] | ["or"] | [",", "and"] | [",", "or"])
+    matches!(between[..], [","] | ["and"] | ["or"] | ["in"] | [",", "and"] | [",", "or"])
 }
 
 /// The spans of a block in runs that stand together.
@@ -123,11 +123,11 @@ fn misplaced(block: &Block, names: &[Span], files: &[Span], repository: &Reposit
     }
     for file in files {
         let Some(path) = repository.path(&file.text) else { continue };
-        let words: HashSet<String> = below(&path).iter().flat_map(|file| words_of(file)).collect();
+        let words: HashSet<String> = below(&path).iter().flat_map(|file| names_of(file)).collect();
         for span in names {
             let citation = Citation::of(&span.text);
             let lacking = citation.names(&span.text).into_iter().filter(|name| !words.contains(*name));
-            failures.extend(lacking.map(|name| format!("{}: `{}` has no word `{name}`", span.line, file.text)));
+            failures.extend(lacking.map(|name| format!("{}: `{}` has no `{name}`", span.line, file.text)));
         }
     }
     failures
@@ -148,12 +148,26 @@ fn broken(document: &Document, target: &str, repository: &Repository) -> Option<
     (!anchor.is_empty() && !anchors.iter().any(|known| known == anchor)).then(|| format!("no heading is `{target}`"))
 }
 
+/// What is wrong in a line of code: a target that make has not, or a path below a folder of the repository that is not
+/// there. What is built, below target/, is not looked for.
+fn mistyped(line: &str, repository: &Repository) -> Vec<String> {
+    let targets = line.strip_prefix("make ").unwrap_or("").split_whitespace().filter(|word| !word.contains('='));
+    let targets: Vec<&str> = targets.collect();
+    let ours = |word: &&str| word.split_once('/').is_some_and(|(top, _)| repository.has_folder(top));
+    let paths: Vec<&str> = line.split_whitespace().filter(ours).collect();
+    [
+        lacking("make has no target", &targets, |name| repository.has_target(name)),
+        lacking("no file", &paths, |name| repository.path(name).is_some()),
+    ]
+    .concat()
+}
+
 /// What is wrong in one block.
 fn failures_in(document: &Document, block: &Block, repository: &Repository) -> Failures {
     let spans = block.spans();
     let mut failures = Vec::new();
     if !block.is_paired() {
-        failures.push(document.at(block.line_at(0), "a backtick has no pair"));
+        failures.push(document.at(block.line_at(0), "a backtick has no pair, or stands beside another"));
     }
     for span in &spans {
         failures.extend(missing(&span.text, repository).iter().map(|what| document.at(span.line, what)));
@@ -170,5 +184,9 @@ fn failures_in(document: &Document, block: &Block, repository: &Repository) -> F
 
 /// All that is wrong in a document's citations and links.
 pub fn failures(document: &Document, repository: &Repository) -> Failures {
-    document.blocks.iter().flat_map(|block| failures_in(document, block, repository)).collect()
+    let in_blocks = document.blocks.iter().flat_map(|block| failures_in(document, block, repository));
+    let in_code = document.code.iter().flat_map(|(number, line)| {
+        mistyped(line, repository).into_iter().map(|what| document.at(*number, &what)).collect::<Vec<_>>()
+    });
+    in_blocks.chain(in_code).collect()
 }

@@ -45,7 +45,7 @@ impl Tally {
 
 /// The documents that are read, by their paths from the root. Notes of past landings, in docs/changes, are not.
 fn documents(root: &Path) -> Vec<Document> {
-    let mut paths = vec!["README.md".to_string(), "CHANGES.md".to_string(), "tests/README.md".to_string()];
+    let mut paths = ["README.md", "CHANGES.md", "examples/README.md", "tests/README.md"].map(str::to_string).to_vec();
     for folder in ["docs", "docs/claims"] {
         paths.extend(source::entries(&root.join(folder)).into_iter().map(|name| format!("{folder}/{name}")));
     }

@@ -1,4 +1,4 @@
-//! A document as blocks of text, with what stands in backticks and the links. Code blocks are not read.
+//! A document as blocks of text, with what stands in backticks and the links, and as lines of code.
 
 use std::ops::Range;
 
@@ -20,6 +20,8 @@ pub struct Document {
     /// From the repository's root.
     pub path: String,
     pub blocks: Vec<Block>,
+    /// The lines of code blocks, with their numbers.
+    pub code: Vec<(usize, String)>,
 }
 
 /// Whether a line starts a block by itself: a heading, a row, a quotation or an item.
@@ -30,7 +32,7 @@ fn starts(line: &str) -> bool {
 
 impl Document {
     pub fn new(path: &str, text: &str) -> Document {
-        let mut document = Document { path: path.to_string(), blocks: Vec::new() };
+        let mut document = Document { path: path.to_string(), blocks: Vec::new(), code: Vec::new() };
         let (mut fenced, mut blank, mut indented) = (false, true, false);
         for (number, line) in text.lines().enumerate() {
             let trimmed = line.trim();
@@ -38,7 +40,9 @@ impl Document {
             let fence = trimmed.starts_with("```");
             fenced ^= fence;
             let code = fenced || fence || indented;
-            if !code && !trimmed.is_empty() {
+            if code {
+                document.code.push((number + 1, trimmed.to_string()));
+            } else if !trimmed.is_empty() {
                 document.add(number + 1, trimmed, blank || starts(trimmed));
             }
             blank = code || trimmed.is_empty();
@@ -79,9 +83,9 @@ impl Block {
         self.line + self.text[..place].matches('\n').count()
     }
 
-    /// Whether each backtick has its pair.
+    /// Whether each backtick has its pair, and none is doubled, which would be read otherwise.
     pub fn is_paired(&self) -> bool {
-        self.text.matches('`').count() % 2 == 0
+        self.text.matches('`').count() % 2 == 0 && !self.text.contains("``")
     }
 
     /// What stands in backticks, a line's end in it being a space.

@@ -14,6 +14,8 @@ pub struct Repository {
     pub edits: BTreeSet<String>,
     /// Each `crate::name` and `crate::module::name` that a crate's src declares.
     items: HashSet<String>,
+    /// Those of them that are public functions, the calls for C by their name alone.
+    pub functions: BTreeSet<String>,
     /// Each `proof : Statement` of a file in proofs, and each statement of one in specs.
     theorems: HashSet<String>,
     statements: HashSet<String>,
@@ -48,16 +50,24 @@ fn declared(line: &str) -> Option<&str> {
     rest.split(|c: char| !c.is_alphanumeric() && c != '_').next()
 }
 
-/// What a crate's src declares, by its path from the crate on.
-fn items(name: &str, folder: &Path) -> Vec<String> {
-    let mut items = Vec::new();
+/// What a crate's src declares: the line that does, and the path of the name from the crate on.
+fn declarations(name: &str, folder: &Path) -> Vec<(String, String)> {
+    let mut declarations = Vec::new();
     for file in below(&folder.join("src")) {
         let module = file.strip_prefix(folder.join("src")).unwrap().with_extension("");
         let module = module.to_string_lossy().replace('/', "::");
         let path = if module == "lib" || module == "main" { name.to_string() } else { format!("{name}::{module}") };
-        items.extend(code(&file).lines().filter_map(declared).map(|item| format!("{path}::{item}")));
+        for line in code(&file).lines() {
+            declarations.extend(declared(line).map(|item| (line.to_string(), format!("{path}::{item}"))));
+        }
     }
-    items
+    declarations
+}
+
+/// The public function that a line declares, as documents name it: a call for C by its name alone.
+fn public<'a>(line: &str, path: &'a str) -> Option<&'a str> {
+    let for_c = || path.rsplit("::").next().filter(|_| line.starts_with("pub extern "));
+    line.starts_with("pub fn ").then_some(path).or_else(for_c)
 }
 
 /// The lines of all definitions or all proofs of a crate.
@@ -99,6 +109,7 @@ impl Repository {
             code: sources.iter().map(|file| code(file)).collect(),
             edits: BTreeSet::new(),
             items: HashSet::new(),
+            functions: BTreeSet::new(),
             theorems: HashSet::new(),
             statements: HashSet::new(),
             claims: claims(root),
@@ -118,7 +129,10 @@ impl Repository {
     fn add_crate(&mut self, name: &str, folder: &Path) {
         let edits = entries(&folder.join("must-fail"));
         self.edits.extend(edits.iter().filter_map(|edit| Some(format!("{name}: {}", edit.strip_suffix(".edit")?))));
-        self.items.extend(items(name, folder));
+        for (line, path) in declarations(name, folder) {
+            self.functions.extend(public(&line, &path).map(str::to_string));
+            self.items.insert(path);
+        }
         self.theorems.extend(
             lines(folder, "proofs").iter().filter_map(|line| Some(line.strip_prefix("pub ")?.trim().to_string())),
         );
@@ -139,9 +153,16 @@ impl Repository {
     /// Whether a file or folder is there, or, below target/, is named by a source.
     pub fn has_file(&self, name: &str) -> bool {
         if name.starts_with("target/") {
-            return self.code.contains(name);
+            let goes_on = |c: char| c.is_alphanumeric() || matches!(c, '_' | '-' | '.');
+            let mut rests = self.code.match_indices(name).map(|(place, _)| &self.code[place + name.len()..]);
+            return rests.any(|rest| !rest.starts_with(goes_on));
         }
         self.path(name).is_some()
+    }
+
+    /// Whether the repository has this folder at its root. What is built is none of it.
+    pub fn has_folder(&self, name: &str) -> bool {
+        name != "target" && self.root.join(name).is_dir()
     }
 
     /// Whether it is a function, constant or type of a crate, or a contract that is assumed.

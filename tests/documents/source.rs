@@ -56,6 +56,17 @@ pub fn words(text: &str) -> Vec<&str> {
     runs.map(|run| run.trim_matches(joins)).filter(|word| !word.is_empty()).collect()
 }
 
+/// The names that a file has: of definitions and proofs those that it declares, which stand before a colon; of any
+/// other file the words of its code.
+pub fn names_of(path: &Path) -> HashSet<String> {
+    if path.extension() != Some("antt".as_ref()) {
+        return words_of(path);
+    }
+    let code = code(path);
+    let heads = code.lines().filter_map(|line| line.split_once(" :")).map(|(head, _)| head);
+    heads.flat_map(words).map(str::to_string).collect()
+}
+
 /// The words of a file's code. Of one with a dot, as `x.len`, its parts too.
 pub fn words_of(path: &Path) -> HashSet<String> {
     let code = code(path);

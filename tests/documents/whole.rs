@@ -28,12 +28,15 @@ fn present(documents: &[Document]) -> Failures {
     missing.chain((!sentences).then(|| "docs/claims: no document is there".to_string())).collect()
 }
 
+/// The documents that lead from the papers' sentences to what holds them.
+fn claims(documents: &[Document]) -> impl Iterator<Item = &Document> {
+    documents.iter().filter(|document| document.path == CLAIMS || document.path.starts_with("docs/claims/"))
+}
+
 /// Each edit is cited where the claims are.
 fn edits(documents: &[Document], repository: &Repository) -> Failures {
-    let claims =
-        documents.iter().filter(|document| document.path == CLAIMS || document.path.starts_with("docs/claims/"));
     let mut cited = HashSet::new();
-    for span in claims.flat_map(Document::spans) {
+    for span in claims(documents).flat_map(Document::spans) {
         if let Citation::Edits(edits) = Citation::of(&span.text) {
             cited.extend(edits);
         }
@@ -41,6 +44,14 @@ fn edits(documents: &[Document], repository: &Repository) -> Failures {
     let none = repository.edits.is_empty().then(|| "crates: no edit is there".to_string());
     let uncited = repository.edits.iter().filter(|edit| !cited.contains(*edit));
     uncited.map(|edit| format!("{CLAIMS}: nothing cites the edit `{edit}`")).chain(none).collect()
+}
+
+/// Each public function is cited where the claims are.
+fn functions(documents: &[Document], repository: &Repository) -> Failures {
+    let cited: HashSet<String> = claims(documents).flat_map(Document::spans).map(|span| span.text).collect();
+    let none = repository.functions.is_empty().then(|| "crates: no public function is there".to_string());
+    let uncited = repository.functions.iter().filter(|function| !cited.contains(*function));
+    uncited.map(|function| format!("{CLAIMS}: nothing cites the function `{function}`")).chain(none).collect()
 }
 
 /// Each field of `Claims` stands in one block of docs/CLAIMS.md with its statement.
@@ -103,6 +114,7 @@ pub fn checks(documents: &[Document], repository: &Repository) -> Vec<(&'static 
     vec![
         ("all documents are there", present(documents)),
         ("each edit is cited in the claims", edits(documents, repository)),
+        ("each public function is cited in the claims", functions(documents, repository)),
         ("each field of Claims is cited, with its statement", fields(documents, repository)),
         ("no cell of the decisions is over 250 characters", cells(documents)),
         ("each assumed contract is cited in the assumptions", assumed(documents, repository)),

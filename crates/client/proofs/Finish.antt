@@ -1,4 +1,4 @@
--- The stages one after the other: a stage's refusal is that of the whole check, and after those that passed their conditions hold.
+-- The stages one after the other: a stage's refusal is that of the whole check, and where stages have passed their conditions hold.
 use Prim.Native.Nat.{ℕ, _≤_, _<_}
 use mathlib.Core.List.{List, [], _∷_}
 use mathlib.Core.Path.{_≡_, sym, ap, _∙_}
@@ -29,7 +29,7 @@ use Rattle.client.proofs.Placed.{owners-below}
 abbrev pub Went : ℕ → Check → Type 0
 Went k c = OneOf (k ∷ []) (tagOf the-type c)
 
--- What holds after the first stage, and after the second.
+-- What holds once the first stage has passed, and once the second has.
 module _ (N u : ℕ) (mem list marks handle : List ℕ) (room : ℕ) (s : Check) where
   module _ (es : said s ≡ tried (sizeSteps N u mem list marks handle room)) (ps : Went 0 s) where
     pub sized : Users N u × Sizes N mem (call N u mem list marks handle room)

@@ -15,7 +15,7 @@ pub length-bytes4 : (x : ℕ) → length (bytes4 x) ≡ 4
 unfolding bytes4
 length-bytes4 x = refl
 
--- Behind xs.
+-- After xs.
 pub four-behind : (xs ys : List ℕ) (i : ℕ) → four (xs ++ ys) (length xs + i) ≡ four ys i
 unfolding four
 four-behind xs ys i =

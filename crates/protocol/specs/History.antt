@@ -1,5 +1,5 @@
--- Runs: any list of client calls, all with one number of users N, from empty memories. A run is written newest first, so that what stands
--- after a call is what came earlier in the run.
+-- Runs: any list of client calls, all with one number of users N, from empty memories. A run is written newest first, so that what follows
+-- a call in the list is what came earlier in the run.
 use Prim.Native.Nat.{ℕ}
 use mathlib.Core.Bool.{cond}
 use mathlib.Core.List.{List, [], _∷_}

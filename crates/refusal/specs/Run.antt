@@ -1,4 +1,4 @@
--- Runs: lists of calls of any kind, written newest first, so that what stands after a call is what came earlier in the run.
+-- Runs: lists of calls of any kind, written newest first, so that what follows a call in the list is what came earlier in the run.
 use Prim.Native.Nat.{ℕ}
 use mathlib.Core.List.{List, [], _∷_}
 use Rattle.refusal.specs.Answer.{Answer, accepted, refused}

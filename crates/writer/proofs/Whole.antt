@@ -16,7 +16,7 @@ use Rattle.itable.proofs.Rows.{length-row, row-part, no-fours, some-fours, no-f
 use Rattle.writer.specs.Internal.Children.{children}
 use Rattle.writer.proofs.Blocks.{block-cong, row-cong}
 
--- Behind a row that stands in the buffer, what was written over its blocks as they were read back is the row over it.
+-- After a row that stands in the buffer, what was written over its blocks as they were read back is the row over it.
 module _
     (κ : ℕ) (L : Level) (s : Sized L) (pos : 0 < L .count) (pre rest out : List ℕ) (from n w : ℕ) (lp : length pre ≡ 642 * from)
     (en : n ≡ wide (L .count)) (ew : w ≡ wide n) (e : out ≡ pre ++ (row κ L 0 n ++ rest))

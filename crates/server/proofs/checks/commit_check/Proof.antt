@@ -17,7 +17,7 @@ use Rattle.server.proofs.Steps.{owner-fields, next-read, other-length, 
 use Rattle.server.proofs.checks.commit_check.Tie as tie
 use Rattle.server.proofs.checks.commit_check.Statement.{statement}
 
--- The list that the records stand in, and the start from after the first three tests.
+-- The list that the records stand in, and the start once the first three tests have passed.
 abbrev list : tie.Start → Server
 list s = record { users = s .args .users; records = s .args .records .now }
 
