@@ -43,18 +43,18 @@ version = $(shell sed -n 's/.*SUNDR_VERSION "\(.*\)"/\1/p' include/sundr.h)
 
 # The archive, the header, pkg-config's file, the desk program and the manual pages.
 install: lib desk
-	install -D -m 644 target/staticlib/libsundr.a $(archive)
-	install -D -m 644 include/sundr.h $(header)
-	install -D -m 644 sundr.pc.in $(pc)
-	install -D -m 755 target/bin/desk $(program)
-	install -D -m 644 man/desk.1 $(program_page)
-	install -D -m 644 man/sundr.3 $(library_page)
+	install -D -m 644 target/staticlib/libsundr.a '$(archive)'
+	install -D -m 644 include/sundr.h '$(header)'
+	install -D -m 644 sundr.pc.in '$(pc)'
+	install -D -m 755 target/bin/desk '$(program)'
+	install -D -m 644 man/desk.1 '$(program_page)'
+	install -D -m 644 man/sundr.3 '$(library_page)'
 	@sed -i 's|@VERSION@|$(version)|; s|@PREFIX@|$(PREFIX)|; s|@LIBDIR@|$(LIBDIR)|; s|@INCLUDEDIR@|$(INCLUDEDIR)|' \
-		$(pc) $(program_page) $(library_page)
+		'$(pc)' '$(program_page)' '$(library_page)'
 
 # Removes these files, and no folder.
 uninstall:
-	rm -f $(archive) $(header) $(pc) $(program) $(program_page) $(library_page)
+	rm -f '$(archive)' '$(header)' '$(pc)' '$(program)' '$(program_page)' '$(library_page)'
 
 # Two of these at once would write the same target/.
 .NOTPARALLEL:

@@ -15,7 +15,8 @@
  * One process at a time: two that start from the same memory would fork their own user.
  *
  * Status 0: accepted. 1: refused, and MEMORY and NEXT are as they were. 2: usage, or a file that
- * cannot be read or written; MEMORY is as it was, or has the bytes to be sent.
+ * cannot be read or written; MEMORY is as it was, or has the bytes to be sent. So after a run that
+ * was cut off send what MEMORY has, if the server's list does not have it.
  */
 #define _POSIX_C_SOURCE 200809L
 #include <errno.h>
@@ -24,6 +25,7 @@
 #include <stdio.h>
 #include <stdlib.h>
 #include <string.h>
+#include <sys/stat.h>
 #include <unistd.h>
 
 #include "sundr.h"
@@ -64,19 +66,24 @@ static size_t load(const char *path, uint8_t *out, size_t size)
 	return len;
 }
 
-/* Reads the memory: none where there is no file. An empty file is no such thing, but a memory lost. */
+/*
+ * Reads the memory: none where there is no file. An empty file is no such thing, but a memory lost. A link, or a file
+ * of two names, would be replaced under this name alone, and stay old under the other.
+ */
 static size_t load_memory(const char *path, uint8_t *out, size_t size)
 {
-	size_t len;
+	struct stat status;
 
-	if (access(path, F_OK) != 0 && errno == ENOENT)
+	if (lstat(path, &status) != 0) {
+		if (errno != ENOENT)
+			fail(path);
 		return 0;
-	len = load(path, out, size);
-	if (len == 0) {
-		fprintf(stderr, "%s: the file is empty, the memory lost\n", path);
+	}
+	if (!S_ISREG(status.st_mode) || status.st_nlink != 1 || status.st_size == 0) {
+		fprintf(stderr, "%s: a memory is a file of one name, and never empty\n", path);
 		exit(2);
 	}
-	return len;
+	return load(path, out, size);
 }
 
 /* The name of the new file beside a file. */
@@ -120,7 +127,7 @@ static void put_in_place(const char *path)
 }
 
 /* Prints a refusal as a sentence, and what its positions mean. */
-static void tell_refusal(uint64_t answer, size_t records)
+static void tell_refusal(uint64_t answer, size_t records, size_t memory_len)
 {
 	enum sundr_refusal_number refusal = sundr_refusal(answer);
 	uint32_t first = sundr_first(answer), second = sundr_second(answer);
@@ -130,6 +137,8 @@ static void tell_refusal(uint64_t answer, size_t records)
 		printf(" (your memory)");
 	else if (refusal == SUNDR_MALFORMED || refusal == SUNDR_UNSIGNED)
 		printf(" (record %u of the list)", first);
+	else if (refusal == SUNDR_NOT_CURRENT && memory_len == 0)
+		printf(" (you remember none)");
 	else if (refusal == SUNDR_UNORDERED && second == records)
 		printf(" (record %u of the list, and your next version)", first);
 	else if (refusal == SUNDR_UNORDERED)
@@ -151,6 +160,11 @@ int main(int argc, char **argv)
 		fprintf(stderr, "usage: client USERS USER MEMORY LIST HANDLE NEXT\n");
 		return 2;
 	}
+	/* The new file beside NEXT could be MEMORY, and would be moved away. */
+	if (strlen(argv[3]) >= 4 && strcmp(argv[3] + strlen(argv[3]) - 4, ".new") == 0) {
+		fprintf(stderr, "%s: no name for a memory: new files have it\n", argv[3]);
+		return 2;
+	}
 	users = number(argv[1]);
 	user = number(argv[2]);
 	memory_len = load_memory(argv[3], memory, sizeof memory);
@@ -165,7 +179,7 @@ int main(int argc, char **argv)
 	answer = sundr_check(users, user, memory, memory_len, list, list_len, marks, marks_len,
 		handle, handle_len, next, sizeof next);
 	if (sundr_refusal(answer) != SUNDR_ACCEPTED) {
-		tell_refusal(answer, marks_len);
+		tell_refusal(answer, marks_len, memory_len);
 	} else {
 		/*
 		 * On disk before it is signed and sent, so MEMORY comes first: whoever signs NEXT, it is

@@ -7,6 +7,7 @@ use std::env;
 use std::ffi::{OsStr, OsString};
 use std::fs::{self, File};
 use std::io::{self, ErrorKind, Write};
+use std::os::unix::fs::MetadataExt;
 use std::path::Path;
 use std::process::ExitCode;
 
@@ -86,12 +87,13 @@ impl Refusal {
         }
     }
 
-    /// What its positions mean, in a list of that many records.
-    fn place(&self, records: usize) -> String {
+    /// What its positions mean, in a list of that many records; and which of two 5 is.
+    fn place(&self, records: usize, memory: &[u8]) -> String {
         let Refusal { number, first, second } = *self;
         match number {
             3 if first == MEMORY_POSITION => " (your memory)".to_string(),
             3 | 4 => format!(" (record {first} of the list)"),
+            5 if memory.is_empty() => " (you remember none)".to_string(),
             7 if second as usize == records => format!(" (record {first} of the list, and your next version)"),
             7 => format!(" (records {first} and {second} of the list)"),
             _ => String::new(),
@@ -105,12 +107,13 @@ fn count(version: &[u8; VERSION_LEN], user: u8) -> u32 {
     u32::from_be_bytes(version[at..at + 4].try_into().unwrap())
 }
 
-/// The memory: none where there is no file. An empty file is no such thing, but a memory lost.
+/// The memory: none where there is no file. What else it may not be, client.c says.
 fn load_memory(path: &OsStr) -> io::Result<Vec<u8>> {
-    match fs::read(path) {
+    match fs::symlink_metadata(path) {
         Err(error) if error.kind() == ErrorKind::NotFound => Ok(Vec::new()),
-        Ok(memory) if memory.is_empty() => Err(io::Error::other("the file is empty, the memory lost")),
-        other => other,
+        Err(error) => Err(error),
+        Ok(status) if status.is_file() && status.nlink() == 1 && status.len() > 0 => fs::read(path),
+        Ok(_) => Err(io::Error::other("a memory is a file of one name, and never empty")),
     }
 }
 
@@ -152,6 +155,9 @@ fn run(args: &[OsString]) -> Result<bool, String> {
     let [users, user, memory_path, list, handle, next_path] = args else {
         return Err("usage: client USERS USER MEMORY LIST HANDLE NEXT".to_string());
     };
+    if memory_path.as_encoded_bytes().ends_with(b".new") {
+        return Err(format!("{}: no name for a memory: new files have it", memory_path.display()));
+    }
     let (users, user) = (number(users)?, number(user)?);
     let memory = load_memory(memory_path).map_err(at(memory_path))?;
     let entries = fs::read(list).map_err(at(list))?;
@@ -164,7 +170,9 @@ fn run(args: &[OsString]) -> Result<bool, String> {
 
     let checked = check(users, user, &memory, &list, &marks, &handle);
     let line = match &checked {
-        Err(refusal) => format!("refused, {}: {}{}", refusal.number, refusal.text(), refusal.place(marks.len())),
+        Err(refusal) => {
+            format!("refused, {}: {}{}", refusal.number, refusal.text(), refusal.place(marks.len(), &memory))
+        }
         Ok(next) => {
             // On disk before it is signed and sent: client.c says why in this order.
             write_new(memory_path, next).map_err(at(memory_path))?;

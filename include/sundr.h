@@ -24,9 +24,11 @@
  * not altered one lent byte.
  *
  * Stack. The bytes that a call takes, with what it takes to call it, as make bench measures them
- * (x86-64, accepted, with the most users); measured, not proved, so leave some to spare:
+ * (x86-64, accepted, with the most users; what is refused was not seen to take more). They are
+ * measured, not proved, so leave some to spare: a memcpy() that is bound at its first call, say,
+ * takes more once (3,688 bytes were seen).
  *
- *     sundr_sha256             764        sundr_server_commit      676
+ *     sundr_sha256             780        sundr_server_commit      676
  *     sundr_check            2,244        sundr_table_write      1,692
  *     sundr_server_make_at      24        sundr_lookup           1,148
  *     sundr_server_list_at   1,800        sundr_block_check        924
@@ -221,7 +223,7 @@ struct sundr_server {
 	uint8_t records[SUNDR_MAX_USERS * SUNDR_VERSION_LEN];
 };
 
-/* The bytes of a struct sundr_server; a compiler that pads it refuses the next line. */
+/* The bytes of a struct sundr_server; a compiler that pads it refuses the typedef. */
 #define SUNDR_SERVER_LEN 1569
 typedef char sundr_server_is_not_padded[sizeof(struct sundr_server) == SUNDR_SERVER_LEN ? 1 : -1];
 

@@ -6,6 +6,8 @@ use std::path::Path;
 
 pub struct Contest {
     pub title: &'static str,
+    /// Its function in the header.
+    pub call: &'static str,
     measure: Measure,
     /// The sizes of the inputs: bytes, or users.
     pub sizes: &'static [usize],
@@ -48,6 +50,7 @@ const HASHES: &str = "its hashes alone";
 pub const CONTESTS: [Contest; 8] = [
     Contest {
         title: "SHA-256",
+        call: "sundr_sha256",
         measure: Measure::Bytes,
         sizes: &[64, 256, 1 << 10, 4 << 10, 16 << 10, 64 << 10],
         rows: &[64 << 10],
@@ -63,6 +66,7 @@ pub const CONTESTS: [Contest; 8] = [
     // A list with a record of each user, which is accepted.
     Contest {
         title: "A client's check",
+        call: "sundr_check",
         measure: Measure::Calls,
         sizes: &[16, 8, 2],
         rows: &[16, 8, 2],
@@ -71,6 +75,7 @@ pub const CONTESTS: [Contest; 8] = [
     },
     Contest {
         title: "A server made, 16 users",
+        call: "sundr_server_make_at",
         measure: Measure::Calls,
         sizes: &[16],
         rows: &[16],
@@ -80,6 +85,7 @@ pub const CONTESTS: [Contest; 8] = [
     // A server that holds a record of each user, here and in the next.
     Contest {
         title: "A server's list, 16 users",
+        call: "sundr_server_list_at",
         measure: Measure::Calls,
         sizes: &[16],
         rows: &[16],
@@ -88,6 +94,7 @@ pub const CONTESTS: [Contest; 8] = [
     },
     Contest {
         title: "A server's commit",
+        call: "sundr_server_commit",
         measure: Measure::Calls,
         sizes: &[16, 8, 2],
         rows: &[16, 8, 2],
@@ -96,6 +103,7 @@ pub const CONTESTS: [Contest; 8] = [
     },
     Contest {
         title: "An i-table of 4,096 files",
+        call: "sundr_table_write",
         measure: Measure::Bytes,
         sizes: &[273 * 642],
         rows: &[273 * 642],
@@ -104,6 +112,7 @@ pub const CONTESTS: [Contest; 8] = [
     },
     Contest {
         title: "A lookup along three blocks",
+        call: "sundr_lookup",
         measure: Measure::Bytes,
         sizes: &[3 * 642],
         rows: &[3 * 642],
@@ -112,6 +121,7 @@ pub const CONTESTS: [Contest; 8] = [
     },
     Contest {
         title: "A check of an inode and a block",
+        call: "sundr_block_check",
         measure: Measure::Bytes,
         sizes: &[517 + 8_192],
         rows: &[517 + 8_192],

@@ -32,6 +32,8 @@ pub fn median(mut values: Vec<f64>) -> f64 {
 /// One piece of work, by the library.
 pub struct Row {
     pub work: String,
+    /// The library's function that does it.
+    pub call: &'static str,
     pub unit: Unit,
     /// A byte or a call.
     pub instructions: Option<f64>,
@@ -87,7 +89,8 @@ run is left out. Speeds are the library's, by the processor's time on that machi
 fn lines(row: &Row) -> String {
     let instructions = count(row.instructions, &row.unit, row.unit.instructions);
     let speed = format!("{} {}", grouped(row.speed / row.unit.one), row.unit.speed);
-    let mut library = [row.work.clone(), instructions, grouped(row.stack as f64), speed];
+    let work = format!("{}: `{}`", row.work, row.call);
+    let mut library = [work, instructions, grouped(row.stack as f64), speed];
     let mut lines = String::new();
     for beside in &row.besides {
         let [work, instructions, stack, speed] = std::mem::take(&mut library);

@@ -79,6 +79,7 @@ impl Field {
         let others = self.contenders.iter().zip(&self.speeds).skip(1);
         Row {
             work: self.contest.name(size),
+            call: self.contest.call,
             unit: self.contest.unit(),
             instructions: self.instructions(&self.contenders[0], size),
             stack: self.contenders[0].stack(size),

@@ -1,6 +1,8 @@
 #include "sha256_message.h"
 #include "sundr.h"
 
+#include <stdlib.h>
+
 void prepare(size_t size)
 {
 	fill(size);
@@ -8,5 +10,7 @@ void prepare(size_t size)
 
 void work(void)
 {
-	sundr_sha256(message, message_len, hash, sizeof hash);
+	/* Asked, and so called, not jumped to: the stack is counted from a call. */
+	if (sundr_sha256(message, message_len, hash, sizeof hash) != SUNDR_ACCEPTED)
+		abort();
 }

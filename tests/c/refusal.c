@@ -34,12 +34,18 @@ static int is(unsigned number, const char *due)
 int main(void)
 {
 	static const unsigned others[] = {REFUSALS, 255, 256, 256 + SUNDR_UNORDERED, INT_MAX, UINT_MAX};
+	static const char *const about[REFUSALS] = {"accepted", "user", "length", "malformed", "signature", "last version",
+		"no further version", "forked", "hash", "path", "no block", "ascend", "too short"};
 	char name[64];
 	unsigned i;
 
 	for (i = 0; i < REFUSALS; i++) {
 		sprintf(name, "%u has a sentence of its own, on one line", i);
 		check(name, is_a_line(sundr_refusal_text(i)) && is_its_own(i));
+	}
+	for (i = 0; i < REFUSALS; i++) {
+		sprintf(name, "%u says what it is about", i);
+		check(name, strstr(sundr_refusal_text(i), about[i]) != NULL);
 	}
 	check("5: rolled back or hidden", is(SUNDR_NOT_CURRENT,
 		"the server's list does not continue your last version: rolled back, or your record is hidden"));

@@ -1,9 +1,10 @@
 //! The header's functions, beside those that the archive exports and those that the manual page names.
 
+use crate::markdown::{Block, Document};
 use crate::repository::Repository;
 use crate::source::{code, text, words};
 use crate::Failures;
-use std::collections::BTreeSet;
+use std::collections::{BTreeMap, BTreeSet};
 use std::path::PathBuf;
 use std::process::Command;
 
@@ -93,6 +94,34 @@ pub fn manual(repository: &Repository) -> Failures {
     let header = Header::read(repository);
     let all = header.declared.union(&header.inline);
     all.filter(|name| !named.contains(name.as_str())).map(|name| format!("{MANUAL}: `{name}` is not named")).collect()
+}
+
+/// The stack that the header states, a number after each function's name.
+fn stated(repository: &Repository) -> BTreeMap<String, String> {
+    let text = text(&repository.root.join(HEADER));
+    let comment = text.split_once(" * Stack.").and_then(|(_, rest)| rest.split_once("*/")).map_or("", |(part, _)| part);
+    let words: Vec<&str> = comment.split_whitespace().collect();
+    let pairs = words.windows(2).filter(|pair| pair[0].starts_with("sundr_"));
+    pairs.map(|pair| (pair[0].to_string(), pair[1].to_string())).collect()
+}
+
+/// The stack that the header states of each function is that of the README's figures: their rows name the function in
+/// the first cell, and have the stack in the third.
+pub fn stack(readme: Option<&Document>, repository: &Repository) -> Failures {
+    let stated = stated(repository);
+    let rows: Vec<Vec<(usize, &str)>> =
+        readme.map_or(Vec::new(), |readme| readme.blocks.iter().map(Block::cells).collect());
+    let mut failures = Vec::new();
+    for name in Header::read(repository).declared {
+        let of_it = rows.iter().filter(|row| row.len() > 2 && row[0].1.ends_with(&format!("`{name}`")));
+        let measured: BTreeSet<&str> = of_it.map(|row| row[2].1).collect();
+        let stated = stated.get(&name).map_or("none", String::as_str);
+        if measured != BTreeSet::from([stated]) {
+            failures
+                .push(format!("{HEADER}: the stack of `{name}` is {stated}, and in the README's figures {measured:?}"));
+        }
+    }
+    failures
 }
 
 /// The header's SUNDR_VERSION.

@@ -120,6 +120,7 @@ pub fn checks(documents: &[Document], repository: &Repository) -> Vec<(&'static 
         ("each assumed contract is cited in the assumptions", assumed(documents, repository)),
         ("the archive exports what the header declares", header::archive(repository)),
         ("the manual page names each function of the header", header::manual(repository)),
+        ("the stack in the header is that of the figures", header::stack(find(documents, "README.md"), repository)),
         ("the newest changes are those of the header's version", version(documents, repository)),
     ]
 }
