@@ -1,4 +1,4 @@
-/* The second implementation, tests/src/reference, as reference.rs exports it. */
+/* The second implementation, tests/src/reference, as reference.rs and reference_server.rs export it. */
 #ifndef REFERENCE_H
 #define REFERENCE_H
 

@@ -31,23 +31,6 @@ pub extern "C" fn reference_check(
 }
 
 #[no_mangle]
-pub extern "C" fn reference_make(users: u8, server: &mut Server) -> u8 {
-    match Server::make(users) {
-        Ok(made) => {
-            *server = made;
-            0
-        }
-        Err(refusal) => refusal.0,
-    }
-}
-
-/// The number of records; there is room for all there can be.
-#[no_mangle]
-pub extern "C" fn reference_list(server: &Server, out: &mut [u8; RECORD * USERS]) -> u32 {
-    server.list(out).unwrap_or(0)
-}
-
-#[no_mangle]
 pub unsafe extern "C" fn reference_commit(server: *mut Server, record: *const u8, record_len: usize, mark: u8) -> u8 {
     match (*server).commit(from_raw_parts(record, record_len), mark) {
         Ok(()) => 0,
