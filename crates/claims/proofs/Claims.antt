@@ -1,6 +1,7 @@
 -- Each statement by its proof.
 use Rattle.sha256.proofs.Constants.{constants}
 use Rattle.sha256.proofs.Recurrence.{recurrence}
+use Rattle.sha256.proofs.WordsTaken.{words-taken, queues-held}
 use Rattle.protocol.proofs.CheckMeans.{check-means}
 use Rattle.protocol.proofs.NewMeans.{new-means}
 use Rattle.protocol.proofs.CommitMeans.{commit-means}
@@ -48,6 +49,8 @@ claims =
       listings-ascend = listings-ascend;
       constants = constants;
       recurrence = recurrence;
+      words-taken = words-taken;
+      queues-held = queues-held;
       lookup-means = lookup-means;
       none-only-at-root = none-only-at-root;
       entry-means = entry-means;

@@ -3,6 +3,7 @@
 -- statements say what those definitions mean, and what holds over every run of them.
 use Rattle.sha256.specs.Constants.{Constants}
 use Rattle.sha256.specs.Schedule.{Recurrence}
+use Rattle.sha256.specs.WordsTaken.{WordsTaken, QueuesHeld}
 use Rattle.protocol.specs.Meaning.{CheckMeans, NewMeans}
 use Rattle.protocol.specs.CommitMeaning.{CommitMeans}
 use Rattle.protocol.specs.NoJoin.{NoJoin, MarkedSuffices}
@@ -56,6 +57,10 @@ pub record Claims : Type 1 where
   pub constants : Constants
   -- The message schedule is the standard's recurrence.
   pub recurrence : Recurrence
+  -- The word that each round takes, from the sixteen that the code holds, is the standard's.
+  pub words-taken : WordsTaken
+  -- And there are such sixteen words before each round, for every block.
+  pub queues-held : QueuesHeld
   -- A lookup accepts exactly where a chain of blocks, each of the hash that led to it and well formed, says so; else why it is refused.
   pub lookup-means : LookupMeans
   -- Only in a root is there no number at most the one that is looked up.

@@ -3,7 +3,9 @@ pub mod Laws
 pub mod Constants
 pub mod Bits
 pub mod Rotation
+pub mod Sums
 pub mod Recurrence
-pub mod Queue
+pub mod WordsTaken
+pub mod RoundsTaken
 pub mod Stores
 pub mod LastBlocks

@@ -70,6 +70,19 @@ module _ (i j x : ℕ) (h : i + j ≤ 32) (hx : x < 2 ^ 32) where
   pub nested : ROTR i (bitXor x (ROTR j x)) ≡ bitXor (ROTR i x) (ROTR (i + j) x)
   nested = rotated-xor i x (ROTR j x) (omega arith) hx (rotated-lt j x (omega arith) hx) ∙ rw (rotated-twice i j x h hx)
 
+-- Both inner rotations at once.
+pub nested-both :
+    (i j l x : ℕ)
+    → i + j ≤ 32
+    → i + l ≤ 32
+    → x < 2 ^ 32
+    → ROTR i (bitXor (bitXor x (ROTR j x)) (ROTR l x)) ≡ bitXor (bitXor (ROTR i x) (ROTR (i + j) x)) (ROTR (i + l) x)
+nested-both i j l x hj hl hx =
+    let hy : bitXor x (ROTR j x) < 2 ^ 32 = xor-lt 32 x (ROTR j x) hx (rotated-lt j x (omega arith) hx) in
+    rotated-xor i (bitXor x (ROTR j x)) (ROTR l x) (omega arith) hy (rotated-lt l x (omega arith) hx)
+    ∙ rw (nested i j x hj hx, rotated-twice i l x hl hx)
+
+-- One after the other.
 pub nested-twice :
     (i j l x : ℕ)
     → i + j + l ≤ 32

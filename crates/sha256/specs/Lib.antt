@@ -1,5 +1,6 @@
 pub mod Sha256
 pub mod Constants
 pub mod Schedule
+pub mod WordsTaken
 pub mod Hash
 pub mod Internal

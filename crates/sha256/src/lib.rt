@@ -8,6 +8,7 @@
 mod block;
 mod digest;
 mod padding;
+mod rounds;
 mod word;
 
 use refusal::Check;
@@ -97,23 +98,22 @@ const K: [u32; 64] = [
     0xc67178f2,
 ];
 
+// The bytes of the longest message that is hashed.
+const LONGEST: usize = 65536;
+
 // Writes the SHA-256 hash of `message` to `out`. Both are the caller's; the message is only read,
 // and `out` is written once, after all of the message has been read. A message of over 65,536
 // bytes, or an `out` that is not of 32, is refused by length, and `out` is then as it was.
 pub fn sha256(message: &[u8], out: &mut [u8]) -> Check
     ensures { λ r. ⌜ Gives (hash (now (message .entry)) (length (now (out .entry)))) (now (out .entry)) (now (out .exit)) r ⌝ }
 {
-    if message.len() > 65536 {
+    if message.len() > LONGEST {
         return Check::Refused(Refusal::Length(0));
     }
     if out.len() != 32 {
         return Check::Refused(Refusal::Length(0));
     }
-    // The table is copied once a call: where a loop names it, it is copied in each turn.
-    let k = K;
-    let mut s = padding::blocks(message, &k);
-    s = padding::finish(message, s, &k);
-    digest::write(out, s);
+    digest::write(out, padding::hash_value(message));
     Check::Passed
 }
 
@@ -122,10 +122,10 @@ pub fn sha256(message: &[u8], out: &mut [u8]) -> Check
 pub fn is_hash(message: &[u8], wanted: &[u8]) -> bool
     ensures { λ r. ⌜ r ≡ isHash (now (message .entry)) (now (wanted .entry)) ⌝ }
 {
-    let mut digest = [0u8; 32];
-    let c = sha256(message, &mut digest);
-    let Check::Passed = c else {
+    if message.len() > LONGEST {
         return false;
-    };
+    }
+    let mut digest = [0u8; 32];
+    digest::write(&mut digest, padding::hash_value(message));
     layout::equal(&digest, wanted)
 }

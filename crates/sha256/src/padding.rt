@@ -5,7 +5,7 @@ use crate::digest;
 ghost use mathlib.Core.Path.{_≡_};
 ghost use Prim.Native.Nat.{_/_, _≤_};
 ghost use lib.ListN.{length};
-ghost use Rattle.sha256.specs.Sha256.{H0, K, hashed, padded};
+ghost use Rattle.sha256.specs.Sha256.{H0, hashed, padded};
 
 // 5.3.3: the initial hash value.
 fn initial() -> State
@@ -24,14 +24,13 @@ fn initial() -> State
 }
 
 // The hash value after the whole blocks of the message, each lent where it stands.
-pub(crate) fn blocks(message: &[u8], k: &[u32; 64]) -> State
-    requires { ⌜ now k ≡ K ⌝ }
+fn blocks(message: &[u8]) -> State
     ensures { λ r. ⌜ r ≡ hashed (now (message .entry)) (length (now (message .entry)) / 64) ⌝ }
 {
     let mut s = initial();
     let mut at = 0;
     while 64 <= message.len() - at {
-        s = block::compress(s, &message[at..at + 64], k);
+        s = block::compress(s, &message[at..at + 64]);
         at += 64;
     }
     s
@@ -41,8 +40,8 @@ pub(crate) fn blocks(message: &[u8], k: &[u32; 64]) -> State
 // at the end of the block that the rest opens, or of one more where less than its eight bytes are
 // free. Of these the first four are zeros, since the length in bits is below 2^32. One buffer
 // serves for both blocks, and one state from end to end: the caller's stack may be small.
-pub(crate) fn finish(message: &[u8], s: State, k: &[u32; 64]) -> State
-    requires { ⌜ (length (now message) ≤ 65536) × (now k ≡ K) × (s ≡ hashed (now message) (length (now message) / 64)) ⌝ }
+fn finish(message: &[u8], s: State) -> State
+    requires { ⌜ (length (now message) ≤ 65536) × (s ≡ hashed (now message) (length (now message) / 64)) ⌝ }
     ensures { λ r. ⌜ r ≡ hashed (padded (now (message .entry))) (length (padded (now (message .entry))) / 64) ⌝ }
 {
     let rest = message.len() % 64;
@@ -53,10 +52,19 @@ pub(crate) fn finish(message: &[u8], s: State, k: &[u32; 64]) -> State
     bytes::copy(&message[from..], &mut last);
     last[rest] = 0x80;
     if 56 <= rest {
-        v = block::compress(v, &last, k);
+        v = block::compress(v, &last);
         last = [0u8; 64];
     }
     digest::store(&mut last, 60, bits);
-    v = block::compress(v, &last, k);
+    v = block::compress(v, &last);
     v
+}
+
+// The hash value of a message, its padding and all.
+pub(crate) fn hash_value(message: &[u8]) -> State
+    requires { ⌜ length (now message) ≤ 65536 ⌝ }
+    ensures { λ r. ⌜ r ≡ hashed (padded (now (message .entry))) (length (padded (now (message .entry))) / 64) ⌝ }
+{
+    let s = blocks(message);
+    finish(message, s)
 }

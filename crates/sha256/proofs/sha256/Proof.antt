@@ -1,5 +1,5 @@
 -- Each length that is refused is tested before the first store, and what is stored then is the hash value after the padding, whose
--- bytes are the definition's. There is no loop here: the blocks' is in `blocks`, whose result `finish` goes on from.
+-- bytes are the definition's. There is no loop here: the blocks' is in `blocks`.
 use Prim.Native.Nat.{ℕ}
 use mathlib.Core.Path.{_≡_, sym, ap, _∙_}
 use mathlib.Core.List.{List}
@@ -29,11 +29,8 @@ returns-2 c =
     kept (c .before .before .before .before .args .out .now)
     (hash-room (c .before .before .before .before .args .message .now) _ (c .before .if1 .left) (c .if2 .taken))
 
-blocks-requires : tie.Need-blocks-requires
-blocks-requires c κs = search needs
-
-finish-requires : tie.Need-finish-requires
-finish-requires c κs = search needs
+hash-value-requires : tie.Need-hash-value-requires
+hash-value-requires c κs = search needs
 
 write-requires : tie.Need-write-requires
 write-requires c κs = search needs
@@ -44,23 +41,11 @@ same-length c = search needs
 returns-3 : tie.Need-returns-3
 unfolding sha256
 returns-3 c =
-    filled
-    (c .before .before .before .before .before .before .before .before .before .before .before .before .args .out .now)
-    (hash-accepted
-    (c .before .before .before .before .before .before .before .before .before .before .before .before .args .message .now)
-    _
-    (c .before .before .before .before .before .before .before .before .before .if1 .left)
-    (c .before .before .before .before .before .before .before .before .if2 .left))
-    (c .before .before .write .ensures ∙ ap bytesOf (c .before .before .before .before .finish .ensures))
+    let w = c .before .before in
+    let e = w .before .before .before in
+    let a = e .before .before .before .before .args in
+    filled (a .out .now) (hash-accepted (a .message .now) _ (e .before .if1 .left) (e .if2 .left))
+    (w .write .ensures ∙ ap bytesOf (w .before .hash-value .ensures))
 
 pub sha256-spec : {M : Type 1} → statement M
-sha256-spec =
-    tie.close
-    (tie.spec
-    returns
-    returns-2
-    blocks-requires
-    finish-requires
-    write-requires
-    same-length
-    returns-3)
+sha256-spec = tie.close (tie.spec returns returns-2 hash-value-requires write-requires same-length returns-3)

@@ -1,14 +1,19 @@
--- The schedule as the code keeps it: a circular queue of sixteen words, as 6.1.3 has it for SHA-1.
-use Prim.Native.Nat.{ℕ, _+_, _%_, _<_, _≤_}
-use mathlib.Core.Path.{_≡_}
+-- What the functions of several rounds leave, from the contracts of one: the array, which is a circular queue of words,
+-- and the working variables.
+use Prim.Native.Nat.{ℕ, zero, suc, _+_, _%_}
 use mathlib.Core.List.{List}
-use lib.ListN.{length, getD}
+use lib.ListN.{getD}
 use Rattle.sha256.specs.declared.State.{State}
-use Rattle.sha256.specs.Sha256.{W, rounds}
+use Rattle.sha256.specs.Sha256.{K, roundOf}
+use Rattle.sha256.specs.WordsTaken.{rolled}
 
--- After t rounds over the block b from z: the working variables s, and the queue w, in which W u stands at u modulo 16
--- for the sixteen u from t on.
-pub record Rolling (b : List ℕ) (z : State) (t : ℕ) (s : State) (w : List ℕ) : Type 0 where
-  pub state : s ≡ rounds b z t
-  pub long : length w ≡ 16
-  pub queue : (u : ℕ) → t ≤ u → u < t + 16 → getD w (u % 16) 0 ≡ W b u
+-- The queue w after n turns from round t on.
+unfoldable pub queueAfter : List ℕ → ℕ → ℕ → List ℕ
+queueAfter w t zero = w
+queueAfter w t (suc n) = rolled (queueAfter w t n) (t + n)
+
+-- The working variables s after n rounds from round t on, each with the word at its place: q n is the queue before
+-- round t + n.
+unfoldable pub roundsOver : (ℕ → List ℕ) → State → ℕ → ℕ → State
+roundsOver q s t zero = s
+roundsOver q s t (suc n) = roundOf (roundsOver q s t n) (getD K (t + n) 0) (getD (q n) ((t + n) % 16) 0)

@@ -1,64 +1,45 @@
--- The rounds are FIPS's, sixteen at a time, and the last sixteen apart. The invariant: t rounds are done, and the queue holds the next words.
-use Prim.Native.Nat.{_-_, _%_, _≤_}
+-- The rounds are FIPS's, sixteen at a time (`sixteen-turns`), and the last sixteen apart. There is no loop.
 use mathlib.Core.Path.{_≡_, refl, ap, _∙_}
 use native.Mathlib.Omega.{arith}
 use borrow.Author.Needs.{needs}
+use lib.ListN.{length}
 use Rattle.sha256.specs.Sha256.{added, compressed}
-use Rattle.sha256.specs.Internal.Rolling.{Rolling}
-use Rattle.sha256.proofs.Queue.{loaded}
+use Rattle.sha256.proofs.WordsTaken.{loaded-long, held, held-queues}
+use Rattle.sha256.proofs.RoundsTaken.{start, sixteen-turns, last-sixteen}
 use Rattle.sha256.proofs.block.compress.Statement.{statement}
 use Rattle.sha256.proofs.block.compress.Tie as tie
 
-abbrev Inv-loop : tie.InvT-loop
-Inv-loop s block k w₀ v₀ t₀ w v t = (t ≤ 48) × (t % 16 ≡ 0) × Rolling block s t v w
+rounds-from-0-requires : tie.Need-rounds-from-0-requires
+rounds-from-0-requires c κs =
+    let l = c .before .before in
+    (refl, ap length (l .load .ensures) ∙ loaded-long (l .before .before .before .args .block .now))
 
-abbrev μ-loop : tie.MeasureT-loop
-μ-loop s block k w₀ v₀ t₀ w v t = 48 - t
-
-load-requires : tie.Need-load-requires Inv-loop μ-loop
-load-requires c κs = search needs
-
-loop-holds : tie.Need-loop-holds Inv-loop μ-loop
-loop-holds c = (omega arith, refl, loaded _ _ _ (c .load .ensures))
-
-sixteen-requires : tie.Need-sixteen-requires Inv-loop μ-loop
-sixteen-requires c κs = search needs
-
-add-t : tie.Need-add-t Inv-loop μ-loop
-add-t c = search needs
-
-loop-less : tie.Need-loop-less Inv-loop μ-loop
-loop-less c = search needs
-
-loop-again : tie.Need-loop-again Inv-loop μ-loop
-loop-again c = (omega arith, omega arith, c .sixteen .ensures .1 _ _ (c .before .before .before .loop .inv .2))
-
-last-requires : tie.Need-last-requires Inv-loop μ-loop
-last-requires c κs = search needs
-
-add-requires : tie.Need-add-requires Inv-loop μ-loop
-add-requires c κs = search needs
-
-returns : tie.Need-returns Inv-loop μ-loop
+returns : tie.Need-returns
 unfolding compressed
 returns c =
-    let l = c .before .before .before .before .loop in
-    let e : l .t ≡ 48 = omega arith in
-    let s = c .before .before .before .before .before .before .before .before .args .s in
-    c .add .ensures ∙ ap (added s) (c .before .last .ensures _ _ (rw e at (l .inv .2)))
+    let c4 = c .before in
+    let c3 = c4 .before .before .before in
+    let c2 = c3 .before .before .before in
+    let c1 = c2 .before .before .before in
+    let l = c1 .before .before .before in
+    let a = l .before .before .before .args in
+    let b = a .block .now in
+    let z = a .s in
+    let w = held b in
+    let q = held-queues b in
+    let e1 = sixteen-turns b w q z 0 (omega arith) (start b w q z (l .load .ensures)) (c1 .rounds-from-0 .ensures) in
+    let e2 = sixteen-turns b w q z 16 (omega arith) e1 (c2 .rounds-from-16 .ensures) in
+    let e3 = sixteen-turns b w q z 32 (omega arith) e2 (c3 .rounds-from-32 .ensures) in
+    c .add .ensures ∙ ap (added z) (last-sixteen b w q z e3 (c4 .rounds-from-48 .ensures))
 
 pub compress-spec : {M : Type 1} → statement M
 compress-spec =
     tie.close
     (tie.spec
-    Inv-loop
-    μ-loop
-    load-requires
-    loop-holds
-    sixteen-requires
-    add-t
-    loop-less
-    loop-again
-    last-requires
-    add-requires
+    (λ c κs. search needs)
+    rounds-from-0-requires
+    (λ c κs. (refl, c .before .before .rounds-from-0 .ensures .0))
+    (λ c κs. (refl, c .before .before .rounds-from-16 .ensures .0))
+    (λ c κs. (refl, c .before .before .rounds-from-32 .ensures .0))
+    (λ c κs. tt)
     returns)

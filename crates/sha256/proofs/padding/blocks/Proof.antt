@@ -11,10 +11,10 @@ use Rattle.sha256.proofs.padding.blocks.Statement.{statement}
 use Rattle.sha256.proofs.padding.blocks.Tie as tie
 
 abbrev Inv-loop : tie.InvT-loop
-Inv-loop message k s₀ at₀ s at = (at ≤ length message) × (at % 64 ≡ 0) × (s ≡ hashed message (at / 64))
+Inv-loop message s₀ at₀ s at = (at ≤ length message) × (at % 64 ≡ 0) × (s ≡ hashed message (at / 64))
 
 abbrev μ-loop : tie.MeasureT-loop
-μ-loop message k s₀ at₀ s at = length message - at
+μ-loop message s₀ at₀ s at = length message - at
 
 initial-requires : tie.Need-initial-requires Inv-loop μ-loop
 initial-requires c κs = search needs
