@@ -11,8 +11,8 @@
 #include <stdlib.h>
 #include <string.h>
 #include <time.h>
-#include <ucontext.h>
 
+#include "paint.h"
 #include "worker.h"
 
 /* The process's own time, in which other programs' turns are not. */
@@ -36,37 +36,6 @@ static long long timed(size_t size, long count)
 	return now() - start;
 }
 
-/* Calls f on a stack painted with one byte, and returns how far down the paint is gone. */
-static size_t depth(void (*f)(void), uint8_t paint)
-{
-	static uint8_t stack[1 << 18];
-	static ucontext_t here, there;
-	size_t i = 0;
-
-	memset(stack, paint, sizeof stack);
-	getcontext(&there);
-	there.uc_stack.ss_sp = stack;
-	there.uc_stack.ss_size = sizeof stack;
-	there.uc_link = &here;
-	makecontext(&there, f, 0);
-	swapcontext(&here, &there);
-	while (i < sizeof stack && stack[i] == paint)
-		i++;
-	return sizeof stack - i;
-}
-
-static void nothing(void)
-{
-}
-
-/* Two paints, for the work may write one of them. */
-static size_t deepest(void (*f)(void))
-{
-	size_t a = depth(f, 0x5a), b = depth(f, 0xc3);
-
-	return a > b ? a : b;
-}
-
 int main(int argc, char **argv)
 {
 	const uint8_t *bytes;
@@ -78,7 +47,7 @@ int main(int argc, char **argv)
 	} else if (argc == 3 && strcmp(argv[1], "stack") == 0) {
 		prepare(strtoul(argv[2], NULL, 10));
 		work();
-		printf("%zu\n", deepest(work) - deepest(nothing));
+		printf("%zu\n", stack_of(work));
 	} else if (argc == 3 && strcmp(argv[1], "result") == 0) {
 		prepare(strtoul(argv[2], NULL, 10));
 		work();
