@@ -16,11 +16,11 @@ test:
 	@tests/run
 
 # Instructions, stack and speed, beside portable C and OpenSSL, or the second implementation.
-bench: lib
+bench: lib desk
 	@tests/bench/run
 
 # The same, kept in the README and in docs/figures.svg, with the commit's name.
-figures: lib
+figures: lib desk
 	@tests/bench/run --keep
 
 # Where things are installed. PREFIX is where they will be used; DESTDIR, if given, stands before each path that is

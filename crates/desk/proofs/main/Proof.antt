@@ -1,4 +1,4 @@
--- What was written of the output is within its buffer. There is no loop.
+-- What was read is within the input's buffer, and what was written of the output within its own. There is no loop.
 use mathlib.Core.Path.{sym}
 use native.Mathlib.Omega.{arith}
 use lib.Seq.{length-take-le}
@@ -7,17 +7,17 @@ use borrow.Author.Needs.{needs}
 use Rattle.desk.proofs.main.Statement.{statement}
 use Rattle.desk.proofs.main.Tie as tie
 
-slice-aggregate-read-full : tie.Need-slice-aggregate-read-full
-slice-aggregate-read-full c = search needs
+slice-aggregate-read : tie.Need-slice-aggregate-read
+slice-aggregate-read c = search needs
 
-read-full-requires : tie.Need-read-full-requires
-read-full-requires c κs = search needs
+read-requires : tie.Need-read-requires
+read-requires c κs = search needs
 
 array-share-prefix-input : tie.Need-array-share-prefix-input
 array-share-prefix-input c = search needs
 
 slice-aggregate-print : tie.Need-slice-aggregate-print
-slice-aggregate-print c = search needs
+slice-aggregate-print c = sym (length-take-le _ _ (omega arith))
 
 slice-aggregate-print-2 : tie.Need-slice-aggregate-print-2
 slice-aggregate-print-2 c = search needs
@@ -33,14 +33,14 @@ array-share-prefix-output c =
     let p = c .before .before .before .before .print in
     let k = c .before .printed .given in omega (arith, within _ 393 (k .0 .0) (rw (k .1) at (p .ensures .0)))
 
-slice-aggregate-write-all : tie.Need-slice-aggregate-write-all
-slice-aggregate-write-all c =
+slice-aggregate-write : tie.Need-slice-aggregate-write
+slice-aggregate-write c =
     let p = c .before .before .before .before .before .print in
     let k = c .before .before .printed .given in
     sym (length-take-le _ _ (omega (arith, within _ 393 (k .0 .0) (rw (k .1) at (p .ensures .0)))))
 
-write-all-requires : tie.Need-write-all-requires
-write-all-requires c κs = search needs
+write-requires : tie.Need-write-requires
+write-requires c κs = search needs
 
 enum-told : tie.Need-enum-told
 enum-told c = search needs
@@ -55,16 +55,16 @@ pub main-spec : {M : Type 1} → statement M
 main-spec =
     tie.close
     (tie.spec
-    slice-aggregate-read-full
-    read-full-requires
+    slice-aggregate-read
+    read-requires
     array-share-prefix-input
     slice-aggregate-print
     slice-aggregate-print-2
     print-requires
     enum-known-printed
     array-share-prefix-output
-    slice-aggregate-write-all
-    write-all-requires
+    slice-aggregate-write
+    write-requires
     enum-told
     returns
     returns-2)
