@@ -24,14 +24,14 @@
  * not altered one lent byte.
  *
  * Stack. The bytes that a call takes, with what it takes to call it, as make bench measures them
- * (x86-64, accepted, with the most users; what is refused was not seen to take more). They are
- * measured, not proved, so leave some to spare: a memcpy() that is bound at its first call, say,
- * takes more once (3,688 bytes were seen).
+ * (x86-64, accepted, with the most users; what is refused takes no more). Every call is tested on
+ * a stack of 4,096 bytes. They are measured, not proved, so leave some to spare: a memcpy() that
+ * is bound at its first call, say, takes more once (3,432 bytes were seen).
  *
- *     sundr_sha256             780        sundr_server_commit      676
- *     sundr_check            2,244        sundr_table_write      1,692
- *     sundr_server_make_at      24        sundr_lookup           1,148
- *     sundr_server_list_at   1,800        sundr_block_check        924
+ *     sundr_sha256             560        sundr_server_commit      676
+ *     sundr_check            2,244        sundr_table_write      1,328
+ *     sundr_server_make_at      24        sundr_lookup             896
+ *     sundr_server_list_at   1,800        sundr_block_check        672
  */
 #ifndef SUNDR_H
 #define SUNDR_H
@@ -44,9 +44,9 @@ extern "C" {
 #endif
 
 /* The version of the library that this header belongs to. */
-#define SUNDR_VERSION "0.3.0"
+#define SUNDR_VERSION "0.4.0"
 #define SUNDR_VERSION_MAJOR 0
-#define SUNDR_VERSION_MINOR 3
+#define SUNDR_VERSION_MINOR 4
 #define SUNDR_VERSION_PATCH 0
 
 /* The numbers in bits 0 to 7 of an answer. */

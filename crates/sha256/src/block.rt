@@ -50,6 +50,7 @@ pub(crate) fn compress(s: State, block: &[u8]) -> State
 {
     let mut w: [u32; 16] = [0; 16];
     load(block, &mut w);
+    // Only literals index the table, so that the compiler keeps no copy of it.
     let k = K;
     let s1 = rounds::rounds_from_0(s, &k, &mut w);
     let s2 = rounds::rounds_from_16(s1, &k, &mut w);

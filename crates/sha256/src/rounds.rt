@@ -18,7 +18,8 @@ use crate::word::small_sigma0;
 use crate::word::small_sigma1;
 use std::num::wrapping_add_u32;
 
-// One round. What waits for nothing of the round before goes first: the sum k + w, and most of the majority.
+// One round. What waits least for the round before goes first: the majority, of which that round has computed a part,
+// and the sum k + w.
 fn round(s: State, k: u32, w: u32) -> State
     ensures { λ r. ⌜ r ≡ roundOf s k w ⌝ }
 {

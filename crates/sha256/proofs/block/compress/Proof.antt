@@ -1,5 +1,5 @@
 -- The rounds are FIPS's, sixteen at a time (`sixteen-turns`), and the last sixteen apart. There is no loop.
-use mathlib.Core.Path.{_≡_, refl, ap, _∙_}
+use mathlib.Core.Path.{refl, ap, _∙_}
 use native.Mathlib.Omega.{arith}
 use borrow.Author.Needs.{needs}
 use lib.ListN.{length}
