@@ -24,9 +24,9 @@
  * not altered one lent byte.
  *
  * Stack. The bytes that a call takes, with what it takes to call it, as make bench measures them
- * (x86-64, accepted, with the most users; what is refused takes no more). Every call is tested on
- * a stack of 4,096 bytes. They are measured, not proved, so leave some to spare: a memcpy() that
- * is bound at its first call, say, takes more once (3,432 bytes were seen).
+ * (x86-64, accepted, with the most users; what is refused was not seen to take more). Every call
+ * is tested on a stack of 4,096 bytes. They are measured, not proved, so leave some to spare: a
+ * memcpy() that is bound at its first call, say, takes more once (3,432 bytes were seen).
  *
  *     sundr_sha256             560        sundr_server_commit      676
  *     sundr_check            2,244        sundr_table_write      1,328

@@ -1,5 +1,5 @@
 /*
- * Runs the desk program's main on a stack of its own, below and above which nothing can be touched, and writes to
+ * Runs the desk program's main on a stack of its own, below which nothing can be touched, and writes to
  * descriptor 3 how many bytes of it were used, the return address included:
  *
  *     DESK_STACK=BYTES LD_PRELOAD=stack.so target/bin/desk
@@ -43,13 +43,13 @@ static int call(uint8_t *top, int argc, char **argv, char **environment)
 	return (int)result;
 }
 
-/* In place of main. The stack's lowest byte is a page's first, and the page below it is shut. */
+/* In place of main. The stack's lowest byte is a page's first. Below it many pages are shut: a frame can step over one. */
 static int on_a_stack(int argc, char **argv, char **environment)
 {
 	size_t page = sysconf(_SC_PAGESIZE), size = number("DESK_STACK", 1 << 16) & ~15UL, untouched = 0;
-	size_t room = (size + page - 1) / page * page;
-	uint8_t *pages = mmap(NULL, room + 2 * page, PROT_NONE, MAP_PRIVATE | MAP_ANONYMOUS, -1, 0);
-	uint8_t *stack = pages + page, paint = number("DESK_PAINT", 0x5a);
+	size_t room = (size + page - 1) / page * page, guard = 256 * page;
+	uint8_t *pages = mmap(NULL, guard + room, PROT_NONE, MAP_PRIVATE | MAP_ANONYMOUS, -1, 0);
+	uint8_t *stack = pages + guard, paint = number("DESK_PAINT", 0x5a);
 	int status;
 
 	if (pages == MAP_FAILED || mprotect(stack, room, PROT_READ | PROT_WRITE) != 0)

@@ -73,7 +73,7 @@ fn last_turn(s: State, k: &[u32; 64], w: &[u32; 16], t: usize) -> State
     requires { ⌜ length (now w) ≡ 16 ⌝ }
     requires { ⌜ t < 64 ⌝ }
     ensures long { λ r. ⌜ length (now (w .entry)) ≡ 16 ⌝ }
-    ensures takes { λ r. ⌜ (now (k .entry) ≡ K) × (r ≡ roundOf s (getD (now (k .entry)) t 0) (getD (now (w .entry)) (t % 16) 0)) ⌝ }
+    ensures took { λ r. ⌜ (now (k .entry) ≡ K) × (r ≡ roundOf s (getD (now (k .entry)) t 0) (getD (now (w .entry)) (t % 16) 0)) ⌝ }
 {
     round(s, k[t], w[t % 16])
 }
