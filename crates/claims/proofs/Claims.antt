@@ -2,6 +2,7 @@
 use Rattle.sha256.proofs.Constants.{constants}
 use Rattle.sha256.proofs.Recurrence.{recurrence}
 use Rattle.sha256.proofs.WordsTaken.{words-taken, queues-held}
+use Rattle.protocol.proofs.Standing.{standing-means, flips, orders-read, standings-occur}
 use Rattle.protocol.proofs.CheckMeans.{check-means}
 use Rattle.protocol.proofs.NewMeans.{new-means}
 use Rattle.protocol.proofs.CommitMeans.{commit-means}
@@ -42,6 +43,10 @@ claims =
       two-users = two-users;
       steady-turns = steady-turns;
       last-turn = last-turn;
+      standing-means = standing-means;
+      flips = flips;
+      orders-read = orders-read;
+      standings-occur = standings-occur;
       check-means = check-means;
       new-means = new-means;
       commit-means = commit-means;

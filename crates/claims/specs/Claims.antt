@@ -4,6 +4,7 @@
 use Rattle.sha256.specs.Constants.{Constants}
 use Rattle.sha256.specs.Schedule.{Recurrence}
 use Rattle.sha256.specs.WordsTaken.{WordsTaken, QueuesHeld}
+use Rattle.protocol.specs.Standing.{StandingMeans, Flipped, OrdersRead, StandingsOccur}
 use Rattle.protocol.specs.Meaning.{CheckMeans, NewMeans}
 use Rattle.protocol.specs.CommitMeaning.{CommitMeans}
 use Rattle.protocol.specs.NoJoin.{NoJoin, MarkedSuffices}
@@ -43,6 +44,14 @@ pub record Claims : Type 1 where
   pub steady-turns : SteadyTurns
   -- There is such a world in which a turn is refused, and turns that lead to such a refusal.
   pub last-turn : LastTurn
+  -- How counts stand: equal, before, after or apart, each exactly where its condition holds, and exactly one of the four.
+  pub standing-means : StandingMeans
+  -- The other way round, before is after, and after before.
+  pub flips : Flipped
+  -- Both orders of the papers are read from it.
+  pub orders-read : OrdersRead
+  -- Each of the four occurs.
+  pub standings-occur : StandingsOccur
   -- A client's check accepts exactly where each condition holds, and refuses exactly for the first that does not.
   pub check-means : CheckMeans
   -- The new structure: its owner, its handle, and each of its counts.

@@ -17,6 +17,7 @@ use crate::records;
 use refusal::Check;
 use refusal::Refusal;
 use version::SIZE;
+use version::Standing;
 use version::Version;
 
 // The place of the user's record in the list; the number of records if there is none.
@@ -85,14 +86,14 @@ fn pairs(list: &[u8], next: [u32; 16]) -> Check
         while j < n {
             let y = structures[j];
             let high = y.counts;
-            if !version::comparable(low, high) {
+            if let Standing::Apart = version::compare(low, high) {
                 break 'pairs;
             }
             j += 1;
         }
-        if !version::strictly_before(low, next) {
+        let Standing::Before = version::compare(low, next) else {
             break 'pairs;
-        }
+        };
         i += 1;
     }
     if i < n {

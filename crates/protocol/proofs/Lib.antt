@@ -1,5 +1,6 @@
 -- In reading order: structures and lists, what the check means, the first half of demand 3, the server's list, the honest half.
 pub mod Version
+pub mod Standing
 pub mod List
 pub mod Conditions
 pub mod CheckMeans

@@ -1,5 +1,6 @@
 -- In reading order.
 pub mod Version
+pub mod Standing
 pub mod List
 pub mod Check
 pub mod Server

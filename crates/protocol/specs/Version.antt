@@ -1,6 +1,7 @@
 -- Version structures, as the 98 bytes of kind 1: owner (1), i-handle (32), sixteen counts of 4 bytes, one per user 0 to 15.
 use Prim.Native.Nat.{ℕ, zero, suc, _+_, _-_, _*_}
 use mathlib.Core.Bool.{Bool, not, _&&_}
+use mathlib.Core.Bool.{cond}
 use mathlib.Core.List.{List, [], _∷_, _++_}
 use lib.Dec.{leb, ltb, eqb}
 use lib.ListN.{getD}
@@ -52,3 +53,18 @@ atOrBefore x y = countsBefore (count x) (count y)
 
 abbrev pub strictlyBefore : List ℕ → List ℕ → Bool
 strictlyBefore x y = countsStrictlyBefore (count x) (count y)
+
+-- How one structure's counts stand to another's: "equal counts, strictly before, strictly after, apart".
+pub data Standing : Type 0 where
+  equal : Standing
+  before : Standing
+  after : Standing
+  apart : Standing
+
+-- The counts f to the counts g, of users 0 to 15.
+unfoldable pub standing : (ℕ → ℕ) → (ℕ → ℕ) → Standing
+standing f g =
+    cond (every (λ v. eqb (f v) (g v)) 0 16) equal
+    (cond (countsStrictlyBefore f g) before
+    (cond (countsStrictlyBefore g f) after
+    apart))

@@ -3,6 +3,7 @@ use crate::held;
 use refusal::Check;
 use refusal::Refusal;
 use version::SIZE;
+use version::Standing;
 ghost use mathlib.Core.Bool.{not, _||_};
 ghost use mathlib.Core.Path.{_≡_};
 ghost use mathlib.Core.List.{List};
@@ -13,7 +14,7 @@ ghost use Rattle.search.specs.Search.{find};
 ghost use Rattle.refusal.specs.Order.{tried};
 ghost use Rattle.refusal.specs.Refusal.{said};
 ghost use Rattle.layout.specs.Bytes.{part};
-ghost use Rattle.protocol.specs.Version.{size, owner as ownerOf, count, countsStrictlyBefore};
+ghost use Rattle.protocol.specs.Version.{size, owner as ownerOf, countsStrictlyBefore};
 ghost use Rattle.protocol.specs.Server.{makeSteps, follows as followsOf, commitSteps};
 ghost use Rattle.version.specs.Version.{fields, countIn};
 
@@ -32,20 +33,24 @@ pub(crate) fn make_check(users: u8) -> Check
 
 // Whether nothing is held of user v, whose own count this is, or what is held is strictly before the
 // new structure.
-fn in_order(own: u32, records: &[u8], v: usize, new: [u32; 16]) -> bool
+fn in_order(own: u32, records: &[u8], v: usize, new: &[u32; 16]) -> bool
     requires { ⌜ (length (now records) ≡ 1568) × (v < 16) ⌝ }
-    ensures { λ r. ⌜ r ≡ (eqb own 0 || countsStrictlyBefore (count (part size (now (records .entry)) v)) (countIn new)) ⌝ }
+    ensures { λ r. ⌜ r ≡ (eqb own 0 || countsStrictlyBefore
+        (countIn (fields (part size (now (records .entry)) v) .counts)) (countIn (now (new .entry)))) ⌝ }
 {
     if own == 0 {
         return true;
     }
-    held::is_before(records, v, new)
+    let Standing::Before = version::compare(held::counts(records, v), *new) else {
+        return false;
+    };
+    true
 }
 
 // Test 7 at user v, of a new structure of this owner with these counts.
-fn follows(records: &[u8], owner: usize, new: [u32; 16], v: usize) -> bool
+fn follows(records: &[u8], owner: usize, new: &[u32; 16], v: usize) -> bool
     requires { ⌜ (length (now records) ≡ 1568) × (v < 16) ⌝ }
-    ensures { λ r. ⌜ ((users : ℕ) (x : List ℕ) → owner ≡ ownerOf x → new ≡ fields x .counts → r ≡ followsOf
+    ensures { λ r. ⌜ ((users : ℕ) (x : List ℕ) → owner ≡ ownerOf x → now (new .entry) ≡ fields x .counts → r ≡ followsOf
         (record { users = users; records = now (records .entry) }) x v) ⌝ }
 {
     let own = held::own_count(records, v);
@@ -59,9 +64,9 @@ fn follows(records: &[u8], owner: usize, new: [u32; 16], v: usize) -> bool
 }
 
 // The lowest user at whom test 7 fails; 16 if it fails at none.
-fn first_apart(records: &[u8], owner: usize, new: [u32; 16]) -> usize
+fn first_apart(records: &[u8], owner: usize, new: &[u32; 16]) -> usize
     requires { ⌜ length (now records) ≡ 1568 ⌝ }
-    ensures { λ r. ⌜ ((users : ℕ) (x : List ℕ) → owner ≡ ownerOf x → new ≡ fields x .counts → r ≡ find
+    ensures { λ r. ⌜ ((users : ℕ) (x : List ℕ) → owner ≡ ownerOf x → now (new .entry) ≡ fields x .counts → r ≡ find
         (λ v. not (followsOf (record { users = users; records = now (records .entry) }) x v)) 0 16) ⌝ }
 {
     let mut v = 0;
@@ -101,7 +106,7 @@ pub(crate) fn commit_check(users: u8, records: &[u8], x: &[u8], mark: u8) -> Che
     if !is_next(counts[owner], held::own_count(records, owner)) {
         return Check::Refused(Refusal::NotCurrent);
     }
-    let v = first_apart(records, owner, counts);
+    let v = first_apart(records, owner, &counts);
     if v < 16 {
         return Check::Refused(Refusal::Unordered(v, 0));
     }

@@ -4,16 +4,16 @@ ghost use mathlib.Core.Path.{_≡_};
 ghost use Prim.Native.Nat.{_<_};
 ghost use lib.ListN.{length};
 ghost use Rattle.layout.specs.Bytes.{part};
-ghost use Rattle.protocol.specs.Version.{size, count, countsStrictlyBefore};
-ghost use Rattle.version.specs.Version.{countIn};
+ghost use Rattle.protocol.specs.Version.{size, count};
+ghost use Rattle.version.specs.Version.{fields};
 
-// Whether the counts in user v's place are strictly before the new ones.
-pub(crate) fn is_before(records: &[u8], v: usize, new: [u32; 16]) -> bool
+// The counts in user v's place.
+pub(crate) fn counts(records: &[u8], v: usize) -> [u32; 16]
     requires { ⌜ (length (now records) ≡ 1568) × (v < 16) ⌝ }
-    ensures { λ r. ⌜ r ≡ countsStrictlyBefore (count (part size (now (records .entry)) v)) (countIn new) ⌝ }
+    ensures { λ r. ⌜ r ≡ fields (part size (now (records .entry)) v) .counts ⌝ }
 {
     let at = SIZE * v;
-    version::record_before(&records[at..at + SIZE], new)
+    version::counts(&records[at..at + SIZE])
 }
 
 // User v's own count in its place; 0 says that no record is held of v.

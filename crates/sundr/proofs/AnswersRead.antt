@@ -9,7 +9,7 @@ use Rattle.sha256.specs.Sha256.{sha256}
 use Rattle.sha256.specs.Hash.{hash}
 use Rattle.sundr.specs.Read.{IsReadPlain, AnswersRead}
 use Rattle.sundr.proofs.Fits.{small-fits, plain-read}
-use Rattle.sundr.proofs.ReadProtocol.{check-read, make-read, list-read, commit-read}
+use Rattle.sundr.proofs.ReadProtocol.{check-read, compare-read, make-read, list-read, commit-read}
 use Rattle.sundr.proofs.ReadTable.{write-read, lookup-read, block-read}
 
 sha256-read : (message : List ℕ) (room : ℕ) → IsReadPlain (hash message room)
@@ -23,6 +23,7 @@ answers-read =
     record {
       sha256 = sha256-read;
       check = check-read;
+      compare = compare-read;
       make = make-read;
       list = list-read;
       commit = commit-read;

@@ -1,5 +1,5 @@
 -- The answers of a client's check and of a server's calls are read back: no position is above 16, and no list has more records.
-use Prim.Native.Nat.{ℕ, suc, zero, _+_, _*_, _≤_}
+use Prim.Native.Nat.{ℕ, suc, zero, _+_, _*_, _≤_, _<_}
 use mathlib.Core.Bool.{Bool, true, false, cond}
 use mathlib.Core.List.{List, []}
 use mathlib.Core.Path.{refl}
@@ -7,7 +7,7 @@ use native.Mathlib.Omega.{arith}
 use lib.Dec.{leb, eqb}
 use lib.ListN.{length, drop, length-append, length-take}
 use Rattle.refusal.specs.Answer.{accepted, andThen}
-use Rattle.protocol.specs.Version.{size, owner, count, own, wellFormed}
+use Rattle.protocol.specs.Version.{size, owner, count, own, wellFormed, Standing, equal, before, after, apart, standing}
 use Rattle.protocol.specs.List.{records}
 use Rattle.protocol.specs.Check.{check}
 use Rattle.protocol.specs.History.{Call, called}
@@ -15,6 +15,8 @@ use Rattle.protocol.specs.Meaning.{ToSizes, Why, users, lengths, remembered, pl
 use Rattle.protocol.proofs.CheckMeans.{check-means}
 use Rattle.protocol.specs.Server.{makeSteps, make, empty, slot, held, heldOwn, heldFrom, allHeld, listSteps, listed, follows, replaced, commitSteps, commit}
 use Rattle.protocol.specs.declared.Server.{Server}
+use Rattle.version.specs.Version.{countIn}
+use Rattle.sundr.specs.Compare.{compared, standingNumber}
 use Rattle.sundr.specs.Server.{sizeSteps, serverIn, bytesOf, makeAt, listedAt}
 use Rattle.sundr.specs.Read.{IsRead, IsReadPlain}
 use Rattle.sundr.proofs.Fits.{Fits, small, small-fits, each-fits, result-read, answer-read, in-order-read, plain-read, plain-then}
@@ -42,6 +44,17 @@ check-read N u mem list marks handle room =
     let c : Call = record { user = u; list = list; marks = marks; handle = handle; room = room } in
     answer-read (λ a. 0) (λ a. 0) (called N mem c) (λ a e. (omega arith, omega arith))
     (λ n p q e. why-fits N mem c n p q (check-means N mem c .1 n p q .0 e))
+
+number-small : (s : Standing) → standingNumber s < 4
+number-small equal = omega arith
+number-small before = omega arith
+number-small after = omega arith
+number-small apart = omega arith
+
+pub compare-read : (x y : List ℕ) → IsRead standingNumber (λ s. 0) (compared x y)
+compare-read x y =
+    let s = standing (countIn x) (countIn y) in
+    result-read standingNumber (λ t. 0) s (omega (arith, number-small s)) (omega arith)
 
 pub make-read : (N : ℕ) (b : List ℕ) → IsReadPlain (makeAt N b)
 unfolding makeAt make makeSteps sizeSteps

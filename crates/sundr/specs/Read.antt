@@ -12,6 +12,7 @@ use Rattle.protocol.specs.Server.{commit}
 use Rattle.protocol.specs.declared.Server.{Server}
 use Rattle.itable.specs.Write.{blocksGiven}
 use Rattle.itable.specs.Inode.{Span, blockCheck}
+use Rattle.sundr.specs.Compare.{compared, standingNumber}
 use Rattle.sundr.specs.Server.{makeAt, listedAt}
 use Rattle.sundr.specs.Lookup.{lookedUp, isFound}
 
@@ -52,6 +53,7 @@ IsReadPlain = IsRead (λ a. 0) (λ a. 0)
 pub record AnswersRead : Type 0 where
   pub sha256 : (message : List ℕ) (room : ℕ) → IsReadPlain (hash message room)
   pub check : (users user : ℕ) (memory list marks handle : List ℕ) (room : ℕ) → IsReadPlain (check users user memory list marks handle room)
+  pub compare : (x y : List ℕ) → IsRead standingNumber (λ s. 0) (compared x y)
   pub make : (users : ℕ) (server : List ℕ) → IsReadPlain (makeAt users server)
   pub list : (server : List ℕ) (room : ℕ) → IsRead (λ n. n) (λ n. 0) (listedAt server room)
   pub commit : (server : Server) (x : List ℕ) (mark : ℕ) → IsReadPlain (commit server x mark)

@@ -2,6 +2,7 @@
 // layer below, with its answer as one number of 64 bits. All that is decided here is two lengths:
 // of a server's list that is lent as bytes, and of the buffer for a handle that is looked up.
 mod check;
+mod compare;
 mod file;
 mod hash;
 mod server_bytes;

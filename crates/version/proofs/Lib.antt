@@ -1,5 +1,6 @@
 pub mod Copied
 pub mod Form
 pub mod Laws
+pub mod Match
 pub mod Orders
 pub mod Written

@@ -1,19 +1,17 @@
--- How counts stand to each other, one user more at a time; and the orders, by how they stand.
-use Prim.Native.Nat.{ℕ, _+_}
-use mathlib.Core.Bool.{Bool, true, false, not, cond, _&&_, _||_}
-use mathlib.Core.Path.{_≡_, refl}
-use native.Mathlib.Omega.{arith}
-use native.Mathlib.Decide.{decLt}
-use borrow.Author.Tests.{eq-eqb, ne-eqb, le-leb, lt-leb}
+-- The number of how counts stand, one user more at a time; and the answer that it tells.
+use Prim.Native.Nat.{ℕ, zero, suc, _+_}
+use mathlib.Core.Bool.{Bool, true, false, cond, _&&_}
+use mathlib.Core.Path.{_≡_, refl, sym, ap, _∙_}
 use lib.Bits.{bitOr}
-use lib.Dec.{leb, eqb}
+use lib.Dec.{leb}
 use Rattle.search.specs.Search.{every}
-use Rattle.search.proofs.Search.{every-more, every-both, every-cong}
-use Rattle.protocol.specs.Version.{countsBefore, countsStrictlyBefore}
-use Rattle.version.specs.Internal.Standing.{standing}
+use Rattle.search.proofs.Search.{every-more}
+use Rattle.protocol.specs.Version.{countsBefore, Standing, equal, before, after, apart, standing}
+use Rattle.protocol.proofs.Standing.{told, by-orders}
+use Rattle.version.specs.Internal.Sides.{side, sides}
 
 -- What is below among all, or at one more; and what is above.
-joined : (a b p q : Bool) → bitOr (bitOr (cond a 0 1 + cond b 0 2) (cond p 0 1)) (cond q 0 2) ≡ cond (a && p) 0 1 + cond (b && q) 0 2
+joined : (a b p q : Bool) → bitOr (cond a 0 1 + cond b 0 2) (cond p 0 1 + cond q 0 2) ≡ cond (a && p) 0 1 + cond (b && q) 0 2
 joined true true true true = refl
 joined true true true false = refl
 joined true true false true = refl
@@ -31,46 +29,32 @@ joined false false true false = refl
 joined false false false true = refl
 joined false false false false = refl
 
-equal-both : (a b : ℕ) → eqb a b ≡ (leb b a && leb a b)
-equal-both a b =
-    elim (decLt a b) [
-      | yes l ↦ rw (ne-eqb a b (λ e. omega arith), lt-leb b a l)
-      | no g ↦
-          elim (decLt b a) [
-            | yes l ↦ rw (ne-eqb a b (λ e. omega arith), le-leb b a (omega arith), lt-leb a b l)
-            | no m ↦ rw (eq-eqb a b (omega arith), le-leb b a (omega arith), le-leb a b (omega arith))
-          ]
-    ]
-
 module _ (f g : ℕ → ℕ) where
-  pub stands-more :
-      (k : ℕ) → bitOr (bitOr (standing f g k) (cond (leb (g k) (f k)) 0 1)) (cond (leb (f k) (g k)) 0 2) ≡ standing f g (k + 1)
-  unfolding standing
-  stands-more k =
+  pub one-more : (k : ℕ) → bitOr (sides f g k) (side (f k) (g k)) ≡ sides f g (k + 1)
+  unfolding sides
+  one-more k =
       rw (every-more (λ v. leb (g v) (f v)) k, every-more (λ v. leb (f v) (g v)) k)
       (joined (every (λ v. leb (g v) (f v)) 0 k) (every (λ v. leb (f v) (g v)) 0 k) (leb (g k) (f k)) (leb (f k) (g k)))
 
-  by-one : (a b : Bool) → eqb (cond a 0 1 + cond b 0 2) 1 ≡ (b && not (a && b))
-  by-one true true = refl
-  by-one true false = refl
-  by-one false true = refl
-  by-one false false = refl
+-- The answer that a number tells.
+abbrev pub answer : ℕ → Standing
+answer zero = equal
+answer (suc zero) = before
+answer (suc (suc zero)) = after
+answer (suc (suc (suc n))) = apart
 
-  pub strictly-one : eqb (standing f g 16) 1 ≡ countsStrictlyBefore f g
-  unfolding standing countsStrictlyBefore countsBefore
-  strictly-one =
-      rw (
-        every-cong (λ v. eqb (f v) (g v)) (λ v. leb (g v) (f v) && leb (f v) (g v)) 0 16 (λ v a b. equal-both (f v) (g v)),
-        every-both (λ v. leb (g v) (f v)) (λ v. leb (f v) (g v)) 0 16,
-      )
-      (by-one (countsBefore g f) (countsBefore f g))
+by-number : (a b : Bool) → answer (cond b 0 1 + cond a 0 2) ≡ told a b
+by-number true true = refl
+by-number true false = refl
+by-number false true = refl
+by-number false false = refl
 
-  by-three : (a b : Bool) → not (eqb (cond a 0 1 + cond b 0 2) 3) ≡ (b || a)
-  by-three true true = refl
-  by-three true false = refl
-  by-three false true = refl
-  by-three false false = refl
+pub other : (n : ℕ) → (n ≡ 0 → ⊥) → (n ≡ 1 → ⊥) → (n ≡ 2 → ⊥) → answer n ≡ apart
+other zero p q r = absurd (p refl)
+other (suc zero) p q r = absurd (q refl)
+other (suc (suc zero)) p q r = absurd (r refl)
+other (suc (suc (suc n))) p q r = refl
 
-  pub comparable-three : not (eqb (standing f g 16) 3) ≡ (countsBefore f g || countsBefore g f)
-  unfolding standing countsBefore
-  comparable-three = by-three (countsBefore g f) (countsBefore f g)
+pub answered : (f g : ℕ → ℕ) (n : ℕ) → n ≡ sides f g 16 → answer n ≡ standing f g
+unfolding sides countsBefore
+answered f g n e = ap answer e ∙ (by-number (countsBefore f g) (countsBefore g f) ∙ sym (by-orders f g))

@@ -1,2 +1,2 @@
 -- What serves the contracts within the crate alone: no call's promise mentions it.
-pub mod Standing
+pub mod Sides

@@ -1,17 +1,17 @@
 // Version structures: the one place that knows their layout. A record's bytes are read, judged well
 // formed and written, and two structures are compared by their counts. Each call is about one record
 // by itself, of any length and bytes, and knows nothing of lists or signatures.
+mod sides;
+
 ghost use mathlib.Core.Path.{_≡_};
-ghost use mathlib.Core.Bool.{cond, not, _||_};
 ghost use Prim.Native.Nat.{ℕ, _-_, _<_};
-ghost use lib.Dec.{leb, eqb};
+ghost use lib.Dec.{eqb};
 ghost use lib.ListN.{length, getD};
 ghost use Rattle.layout.specs.Bytes.{values, bytes4, bytesAt};
 ghost use Rattle.protocol.specs.Version.{size, owner as ownerOf, count as countOf, own, counts as countsOf, structure};
-ghost use Rattle.protocol.specs.Version.{wellFormed, countsBefore, countsStrictlyBefore};
+ghost use Rattle.protocol.specs.Version.{wellFormed, standing};
 ghost use Rattle.search.specs.Search.{every};
-ghost use Rattle.version.specs.Version.{fields, countIn};
-ghost use Rattle.version.specs.Internal.Standing.{standing as standingOf};
+ghost use Rattle.version.specs.Version.{fields, countIn, standingAs};
 
 // A record's length, and where its kind, owner, i-handle and counts stand.
 pub const SIZE: usize = 98;
@@ -80,7 +80,8 @@ fn read_handle(x: &[u8]) -> [u8; 32]
     handle
 }
 
-fn read_counts(x: &[u8]) -> [u32; 16]
+// The sixteen counts of a record.
+pub fn counts(x: &[u8]) -> [u32; 16]
     ensures { λ r. ⌜ r ≡ values (countOf (now (x .entry))) 0 16 ⌝ }
 {
     let mut counts = [0u32; 16];
@@ -99,7 +100,7 @@ fn read_whole(x: &[u8]) -> Version
 {
     let owner = owner(x);
     let handle = read_handle(x);
-    let counts = read_counts(x);
+    let counts = counts(x);
     Version {
         owner,
         handle,
@@ -185,89 +186,23 @@ pub fn write(user: u8, handle: [u8; 32], counts: [u32; 16]) -> [u8; SIZE]
     record
 }
 
-// 1 if a is below b, 0 if not.
-fn below(a: u32, b: u32) -> u32
-    ensures { λ r. ⌜ r ≡ cond (leb b a) 0 1 ⌝ }
+// How the counts of one structure stand to those of another.
+pub enum Standing {
+    Equal,
+    Before,
+    After,
+    Apart,
+}
+
+// How the counts of x stand to those of y: the one comparison of structures, of any sixteen counts
+// with any sixteen.
+pub fn compare(x: [u32; 16], y: [u32; 16]) -> Standing
+    ensures { λ r. ⌜ standingAs r ≡ standing (countIn x) (countIn y) ⌝ }
 {
-    if a < b {
-        return 1;
+    match sides::sides(x, y) {
+        0 => Standing::Equal,
+        1 => Standing::Before,
+        2 => Standing::After,
+        _ => Standing::Apart,
     }
-    0
-}
-
-// 2 if a is above b, 0 if not.
-fn above(a: u32, b: u32) -> u32
-    ensures { λ r. ⌜ r ≡ cond (leb a b) 0 2 ⌝ }
-{
-    if b < a {
-        return 2;
-    }
-    0
-}
-
-// How the counts of x stand to those of y: 1 if some is below, and 2 more if some is above. No count
-// ends the loop, so that the compiler compares four at a time.
-fn standing(x: [u32; 16], y: [u32; 16]) -> u32
-    ensures { λ r. ⌜ r ≡ standingOf (countIn x) (countIn y) 16 ⌝ }
-{
-    let mut sides = 0;
-    let mut v = 0;
-    while v < 16 {
-        sides = sides | below(x[v], y[v]) | above(x[v], y[v]);
-        v += 1;
-    }
-    sides
-}
-
-// Whether x is at or before y, and some count differs.
-pub fn strictly_before(x: [u32; 16], y: [u32; 16]) -> bool
-    ensures { λ r. ⌜ r ≡ countsStrictlyBefore (countIn x) (countIn y) ⌝ }
-{
-    standing(x, y) == 1
-}
-
-// Whether one of x and y is at or before the other.
-pub fn comparable(x: [u32; 16], y: [u32; 16]) -> bool
-    ensures { λ r. ⌜ r ≡ (countsBefore (countIn x) (countIn y) || countsBefore (countIn y) (countIn x)) ⌝ }
-{
-    standing(x, y) != 3
-}
-
-// Whether each count of a record is at most that of y. Here and below a count is compared as it is
-// read: sixteen that are first written to an array are waited for.
-fn at_most(x: &[u8], y: [u32; 16]) -> bool
-    ensures { λ r. ⌜ r ≡ countsBefore (countOf (now (x .entry))) (countIn y) ⌝ }
-{
-    let mut v = 0;
-    while v < 16 {
-        if y[v] < count(x, v as u8) {
-            return false;
-        }
-        v += 1;
-    }
-    true
-}
-
-// Whether some count of a record is not that of y.
-fn differs(x: &[u8], y: [u32; 16]) -> bool
-    ensures { λ r. ⌜ r ≡ not (every (λ v. eqb (countOf (now (x .entry)) v) (countIn y v)) 0 16) ⌝ }
-{
-    let mut v = 0;
-    while v < 16 {
-        if count(x, v as u8) != y[v] {
-            return true;
-        }
-        v += 1;
-    }
-    false
-}
-
-// Whether a record is at or before y, and some count differs: for a record that is compared once.
-pub fn record_before(x: &[u8], y: [u32; 16]) -> bool
-    ensures { λ r. ⌜ r ≡ countsStrictlyBefore (countOf (now (x .entry))) (countIn y) ⌝ }
-{
-    if !at_most(x, y) {
-        return false;
-    }
-    differs(x, y)
 }

@@ -10,16 +10,16 @@ owner-requires c κs = search needs
 read-handle-requires : tie.Need-read-handle-requires
 read-handle-requires c κs = search needs
 
-read-counts-requires : tie.Need-read-counts-requires
-read-counts-requires c κs = search needs
+counts-requires : tie.Need-counts-requires
+counts-requires c κs = search needs
 
 returns : tie.Need-returns
 unfolding fields
 returns c = λ i. record {
   owner = (c .before .before .owner .ensures) i;
   handle = (c .before .read-handle .ensures) i;
-  counts = (c .read-counts .ensures) i;
+  counts = (c .counts .ensures) i;
 }
 
 pub read-whole-spec : {M : Type 1} → statement M
-read-whole-spec = tie.close (tie.spec owner-requires read-handle-requires read-counts-requires returns)
+read-whole-spec = tie.close (tie.spec owner-requires read-handle-requires counts-requires returns)

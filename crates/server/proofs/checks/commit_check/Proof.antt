@@ -103,10 +103,10 @@ first-apart-requires c κs = search needs
 -- The user that the last test found is the definition's.
 found :
     (c : tie.After-first-apart) →
-    let s = start (c .before .before .before .before) in
+    let s = start (c .before .before .before .before .before) in
     let x = s .args .x .now in c .first-apart .result ≡ find (λ i. not (follows (list s) x i)) 0 16
 found c =
-    let k = c .before .before .before .before in
+    let k = c .before .before .before .before .before in
     let x = start k .args .x .now in
     let e = k .before .before .read .ensures in
     c .first-apart .ensures (start k .args .users) x (ap (λ (g : Version). g .owner) e ∙ owner-fields x) (ap (λ (g : Version). g .counts) e)
@@ -114,21 +114,21 @@ found c =
 returns-5 : tie.Need-returns-5
 returns-5 c =
     let f = c .before in
-    let n = f .before .before in
+    let n = f .before .before .before in
     let k = n .before .before in
     let s = start k in
     let p = passed k in
-    let e = next n ∙ not-false _ (f .before .if4 .left) in
+    let e = next n ∙ not-false _ (f .before .before .if4 .left) in
     apart (list s) (s .args .x .now) (s .args .mark) (p .0) (p .1) (p .2) e _ (found f) (c .if5 .taken)
 
 returns-6 : tie.Need-returns-6
 returns-6 c =
     let f = c .before in
-    let n = f .before .before in
+    let n = f .before .before .before in
     let k = n .before .before in
     let s = start k in
     let p = passed k in
-    let e = next n ∙ not-false _ (f .before .if4 .left) in
+    let e = next n ∙ not-false _ (f .before .before .if4 .left) in
     passes (list s) (s .args .x .now) (s .args .mark) (p .0) (p .1) (p .2) e _ (found f) (c .if5 .left)
 
 pub commit-check-spec : {M : Type 1} → statement M

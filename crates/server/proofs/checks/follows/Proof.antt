@@ -35,19 +35,19 @@ returns-2 c = λ u x eo en.
 mul-result : tie.Need-mul-result
 mul-result c = search needs
 
-array-read-result : tie.Need-array-read-result
-array-read-result c = search needs
+element-copy-out-result : tie.Need-element-copy-out-result
+element-copy-out-result c = search needs
 
 returns-3 : tie.Need-returns-3
 returns-3 c = λ u x eo en.
-    let h = c .before .before in
+    let h = c .before .before .before in
     let a = h .before .before .before .args in
     let k = h .before .own-count .ensures in
-    let i = rw (k, en) at (sym (h .in-order .ensures) ∙ not-false _ (c .before .if1 .left)) in
+    let i = rw (k, en) at (sym (h .in-order .ensures) ∙ not-false _ (c .before .before .if1 .left)) in
     rw (k, en)
     (sym
     (follows-fields (record { users = u; records = a .records .now }) x (a .v) (search needs) (search needs) ∙
-    rw (i, ne-eqb (a .v) (owner x) (λ e. c .if2 .left (e ∙ sym eo)))))
+    rw (i, ne-eqb (a .v) (owner x) (λ e. c .before .if2 .left (e ∙ sym eo)))))
 
 pub follows-spec : {M : Type 1} → statement M
 follows-spec =
@@ -58,5 +58,5 @@ follows-spec =
     returns
     returns-2
     mul-result
-    array-read-result
+    element-copy-out-result
     returns-3)

@@ -8,8 +8,8 @@ use lib.Seq.{take-all}
 use Rattle.layout.specs.Bytes.{values}
 use Rattle.layout.proofs.Values.{filled}
 use Rattle.protocol.specs.Version.{count}
-use Rattle.version.proofs.read_counts.Statement.{statement}
-use Rattle.version.proofs.read_counts.Tie as tie
+use Rattle.version.proofs.counts.Statement.{statement}
+use Rattle.version.proofs.counts.Tie as tie
 
 abbrev Inv-loop : tie.InvT-loop
 Inv-loop x counts₀ v₀ counts v = (v ≤ 16) × (length counts ≡ 16) × (take v counts ≡ values (count x) 0 v)
@@ -50,8 +50,8 @@ returns c =
     let e : l .v ≡ 16 = omega arith in
     sym (take-all 16 (l .counts) (omega arith)) ∙ (rw e at (l .inv .2))
 
-pub read-counts-spec : {M : Type 1} → statement M
-read-counts-spec =
+pub counts-spec : {M : Type 1} → statement M
+counts-spec =
     tie.close
     (tie.spec
     Inv-loop
