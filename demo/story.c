@@ -225,6 +225,20 @@ static void tell_refusal(uint64_t answer)
 	tell("  \"%s\"", sundr_refusal_text(sundr_refusal(answer)));
 }
 
+/* The standing of one record's counts to another's, which has to be this, in these words. */
+static void tell_standing(const uint8_t *record, const uint8_t *other, enum sundr_standing due, const char *words)
+{
+	uint32_t x[SUNDR_MAX_USERS], y[SUNDR_MAX_USERS];
+	uint64_t answer;
+
+	sundr_counts(record, x);
+	sundr_counts(other, y);
+	answer = sundr_compare(x, y);
+	must_accept(answer, "a comparison");
+	must(sundr_first(answer) == due && sundr_second(answer) == 0, "how two records stand");
+	tell("  %u %u is %s %u %u", x[MAINTAINER], x[RELEASE_DESK], words, y[MAINTAINER], y[RELEASE_DESK]);
+}
+
 static void the_old_disk(struct client *desk, const struct sundr_server *old_disk)
 {
 	struct sent sent = send_list(old_disk);
@@ -238,6 +252,8 @@ static void the_old_disk(struct client *desk, const struct sundr_server *old_dis
 	answer = check(desk, &sent, 1);
 	must_refuse(answer, SUNDR_NOT_CURRENT, 0, 0);
 	tell_refusal(answer);
+	tell("The release desk's record in that list is older than its last one, and not forked:");
+	tell_standing(sent.list + SUNDR_VERSION_LEN, desk->memory, SUNDR_BEFORE, "before");
 	tell("The release desk has signed that it saw the correction, and the list is from before that. So no");
 	tell("board is built with the old table. Once, without this check, four thousand were.");
 }
@@ -265,6 +281,8 @@ static void the_fork(struct client *maintainer, struct client *desk, struct sund
 	answer = check(desk, &sent, 1);
 	must_refuse(answer, SUNDR_UNORDERED, 0, 1);
 	tell_refusal(answer);
+	tell("Neither is merely older than the other, as their counts show:");
+	tell_standing(maintainers_record(&sent), desk->memory, SUNDR_APART, "apart from");
 	tell("Each record lacks operations that the other counts. It is proved that no client ever accepts a");
 	tell("list with both, or with later ones, as long as no signature is forged. So the server has to keep");
 	tell("the two users apart for good, and one telephone call between them shows it.");

@@ -7,12 +7,12 @@
  * needs memcpy() and memset() of whatever it is linked with.
  *
  * Lent memory. Each buffer is passed as a pointer, then the number of its elements. The
- * pointer may be NULL where that number is 0; otherwise all the elements must be there, and
- * it is aligned for them, which matters for the i-numbers of sundr_table_write() alone. A
- * pointer without a number, to a struct or to the bytes of a version structure, points to one,
- * whole, and is never NULL. A buffer that a call writes (a pointer to non-const) must not
- * overlap another of its buffers. There is no other duty: whatever the bytes, the numbers and
- * the lengths are, each call ends, with the answer that its comment gives.
+ * pointer may be NULL where that number is 0; otherwise all the elements must be there. A
+ * pointer without a number, to a struct, to the bytes of a version structure or to its sixteen
+ * counts, points to all of it, and is never NULL. Each is aligned for its elements, which
+ * matters for i-numbers and for sixteen counts alone. A buffer that a call writes (a pointer to
+ * non-const) must not overlap another of its buffers. There is no other duty: whatever the
+ * bytes, the numbers and the lengths are, each call ends, with the answer that its comment gives.
  *
  * Answers. Each call answers one number of 64 bits:
  *
@@ -28,10 +28,11 @@
  * is tested on a stack of 4,096 bytes. They are measured, not proved, so leave some to spare: a
  * memcpy() that is bound at its first call, say, takes more once (3,432 bytes were seen).
  *
- *     sundr_sha256             560        sundr_server_commit      676
- *     sundr_check            2,244        sundr_table_write      1,328
- *     sundr_server_make_at      24        sundr_lookup             896
- *     sundr_server_list_at   1,800        sundr_block_check        672
+ *     sundr_sha256             560        sundr_server_commit      612
+ *     sundr_compare              8        sundr_table_write      1,328
+ *     sundr_check            2,244        sundr_lookup             896
+ *     sundr_server_make_at      24        sundr_block_check        672
+ *     sundr_server_list_at   1,800
  */
 #ifndef SUNDR_H
 #define SUNDR_H
@@ -44,9 +45,9 @@ extern "C" {
 #endif
 
 /* The version of the library that this header belongs to. */
-#define SUNDR_VERSION "0.4.0"
+#define SUNDR_VERSION "0.5.0"
 #define SUNDR_VERSION_MAJOR 0
-#define SUNDR_VERSION_MINOR 4
+#define SUNDR_VERSION_MINOR 5
 #define SUNDR_VERSION_PATCH 0
 
 /* The numbers in bits 0 to 7 of an answer. */
@@ -175,6 +176,37 @@ static inline uint32_t sundr_count(const uint8_t *version, uint8_t user)
 	return (uint32_t)at[0] << 24 | (uint32_t)at[1] << 16 | (uint32_t)at[2] << 8 | at[3];
 }
 
+/* The sixteen counts of a version structure, as sundr_compare() reads them. */
+static inline void sundr_counts(const uint8_t *version, uint32_t counts[SUNDR_MAX_USERS])
+{
+	uint8_t user;
+
+	for (user = 0; user < SUNDR_MAX_USERS; user++)
+		counts[user] = sundr_count(version, user);
+}
+
+/* How sixteen counts x stand to sixteen counts y. */
+enum sundr_standing {
+	SUNDR_EQUAL = 0,  /* each count of x is that of y */
+	SUNDR_BEFORE = 1, /* each is at most that of y, and some is less: x is older */
+	SUNDR_AFTER = 2,  /* each is at least that of y, and some is more: x is newer */
+	SUNDR_APART = 3   /* some is less than that of y, and some is more: forked */
+};
+
+/*
+ * sundr_compare: how sixteen counts stand to sixteen others, so that a user who sees that one
+ * version structure is not at or before another can be told whether the other is older, or forked.
+ *
+ * Reads x[0..16) and y[0..16), each whole and aligned for uint32_t; they may be the same array.
+ * Any counts are taken, and all sixteen are compared, whatever the number of users is. A version
+ * structure has its counts from byte 34 of its 98 on, big-endian: sundr_counts() gets them. What
+ * is said of records that a check refused is worth as much as their signatures.
+ *
+ * Accepted: the first result is how x stands to y, an enum sundr_standing, and the second is 0.
+ * Nothing is refused.
+ */
+uint64_t sundr_compare(const uint32_t x[SUNDR_MAX_USERS], const uint32_t y[SUNDR_MAX_USERS]);
+
 /* The first position of a refusal of sundr_check() that means memory, and no record of the list. */
 #define SUNDR_MEMORY_POSITION 16
 
@@ -205,6 +237,8 @@ static inline uint32_t sundr_count(const uint8_t *version, uint8_t user)
  *   SUNDR_UNORDERED     first, second: the least pair of records of which neither is at or
  *                       before the other; where second is the number of records, it means the
  *                       new structure, and the first is not strictly before it.
+ *
+ * How two version structures stand to each other, older, newer or forked, sundr_compare() tells.
  */
 uint64_t sundr_check(uint8_t users, uint8_t user,
 	const uint8_t *memory, size_t memory_len,

@@ -47,7 +47,7 @@ const fn openssl(name: &'static str, features: &'static str, sha: bool) -> Entry
 const REFERENCE: &str = "second implementation, rustc -O";
 const HASHES: &str = "its hashes alone";
 
-pub const CONTESTS: [Contest; 8] = [
+pub const CONTESTS: [Contest; 9] = [
     Contest {
         title: "SHA-256",
         call: "sundr_sha256",
@@ -62,6 +62,16 @@ pub const CONTESTS: [Contest; 8] = [
             openssl("OpenSSL, vector instructions", ":~0x20000000", false),
             openssl("OpenSSL, SHA instructions", "", true),
         ],
+    },
+    // Each of the four standings, in turn.
+    Contest {
+        title: "Two structures' counts compared",
+        call: "sundr_compare",
+        measure: Measure::Calls,
+        sizes: &[16],
+        rows: &[16],
+        go: 25_000_000,
+        entries: &[entry("libsundr.a", "compare_sundr"), entry(REFERENCE, "compare_reference")],
     },
     // A list with a record of each user, which is accepted.
     Contest {

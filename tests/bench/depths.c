@@ -22,10 +22,12 @@ static size_t measured(int i)
 	return bytes;
 }
 
-/* A number as a cell of a table, with a comma before its last three digits. */
+/* A number as a cell of a table, with a comma before its last three digits. A call that refuses nothing has none. */
 static void cell(size_t bytes)
 {
-	if (bytes < 1000)
+	if (bytes == 0)
+		printf(" none |");
+	else if (bytes < 1000)
 		printf(" %zu |", bytes);
 	else
 		printf(" %zu,%03zu |", bytes / 1000, bytes % 1000);

@@ -7,6 +7,9 @@
 
 struct sundr_server;
 
+/* Gives the standing's number. */
+uint8_t reference_compare(const uint32_t x[16], const uint32_t y[16]);
+
 /*
  * The check of a list that has a record of each user; the client's own is its memory. Gives 0, or the
  * refusal's number.

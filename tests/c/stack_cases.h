@@ -1,8 +1,8 @@
 /*
  * Every call of include/sundr.h, accepted and refused, for stacks to be measured by: stack.c makes them on a small one,
  * ../bench/depths.c on a painted one. All that a call is lent lies in static memory, so that the stack is the call's
- * alone. A refusal is by the test that is tried last, or after the last hash. A case may be made any number of times,
- * and its answer is the same.
+ * alone. A refusal is by the test that is tried last, or after the last hash; sundr_compare() has none. A case may be
+ * made any number of times, and its answer is the same.
  */
 #ifndef STACK_CASES_H
 #define STACK_CASES_H
@@ -21,6 +21,9 @@ static uint8_t list[16 * 98], forked[16 * 98], marks[16], handle[32];
 /* A server that holds the list; user 15's next record, and one that does not count user 14's operation. */
 static struct sundr_server server;
 static uint8_t record[98], apart[98];
+
+/* The counts of that next record, of the one that lacks an operation, and of user 15's in the list. */
+static uint32_t next_counts[16], apart_counts[16], listed_counts[16];
 
 /* The files of a table, of which file i has the number 5 * i + 3; the path to the last, and one with a bit altered. */
 static uint64_t numbers[4096];
@@ -62,6 +65,9 @@ static void fill_lists(void)
 	put(record + 34 + 4 * 15, 2);
 	memcpy(apart, record, sizeof apart);
 	put(apart + 34 + 4 * 14, 0);
+	sundr_counts(record, next_counts);
+	sundr_counts(apart, apart_counts);
+	sundr_counts(list + 98 * 15, listed_counts);
 }
 
 static void fill_table(void)
@@ -132,6 +138,21 @@ static void hash_65536(void)
 static void hash_65537(void)
 {
 	answer = sundr_sha256(message, 65537, written.hash[4], 32);
+}
+
+static void compare_same(void)
+{
+	answer = sundr_compare(listed_counts, listed_counts);
+}
+
+static void compare_next(void)
+{
+	answer = sundr_compare(listed_counts, next_counts);
+}
+
+static void compare_apart(void)
+{
+	answer = sundr_compare(listed_counts, apart_counts);
 }
 
 static void check_list(void)
@@ -228,6 +249,9 @@ static const struct {
 	{"sundr_sha256", "64 bytes", hash_64, ANSWER(SUNDR_ACCEPTED, 0, 0)},
 	{"sundr_sha256", "65,536 bytes", hash_65536, ANSWER(SUNDR_ACCEPTED, 0, 0)},
 	{"sundr_sha256", "65,537 bytes", hash_65537, ANSWER(SUNDR_LENGTH, 0, 0)},
+	{"sundr_compare", "the same counts", compare_same, ANSWER(SUNDR_ACCEPTED, SUNDR_EQUAL, 0)},
+	{"sundr_compare", "the last user's next", compare_next, ANSWER(SUNDR_ACCEPTED, SUNDR_BEFORE, 0)},
+	{"sundr_compare", "the last two users' forked", compare_apart, ANSWER(SUNDR_ACCEPTED, SUNDR_APART, 0)},
 	{"sundr_check", "16 users", check_list, ANSWER(SUNDR_ACCEPTED, 0, 0)},
 	{"sundr_check", "16 users, the last two forked", check_forked, ANSWER(SUNDR_UNORDERED, 14, 15)},
 	{"sundr_server_make_at", "16 users", make_server, ANSWER(SUNDR_ACCEPTED, 0, 0)},

@@ -74,14 +74,20 @@ fn due(request: &Request) -> Result<[u8; RECORD], Refusal> {
     check(*users, *user, memory, list, marks, handle, *out_len)
 }
 
-/// One call, on the library alone: the new structure, if it accepted.
-pub fn ask(request: &Request) -> Option<Version> {
+/// One call, on the library alone: the answer, and what out has then.
+pub fn answer(request: &Request) -> (Answer, Vec<u8>) {
     let Request { users, user, memory, list, marks, handle, out_len } = request;
     let [m, l, k, h] = [memory, list, marks, handle].map(|bytes| (bytes.as_ptr(), bytes.len()));
     let mut out = vec![0; *out_len];
     let answer =
         unsafe { sundr_check(*users, *user, m.0, m.1, l.0, l.1, k.0, k.1, h.0, h.1, out.as_mut_ptr(), out.len()) };
-    matches!(Answer::from(answer), Answer::Accepted(..)).then(|| Version::read(&out))
+    (Answer::from(answer), out)
+}
+
+/// The new structure, if the library accepts.
+pub fn ask(request: &Request) -> Option<Version> {
+    let (answer, out) = answer(request);
+    matches!(answer, Answer::Accepted(..)).then(|| Version::read(&out))
 }
 
 /// One call, judged: the answer, the new structure, and every byte that is not to change. Gives

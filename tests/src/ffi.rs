@@ -5,6 +5,8 @@ use crate::reference::Refusal;
 extern "C" {
     pub fn sundr_sha256(message: *const u8, message_len: usize, out: *mut u8, out_len: usize) -> u64;
 
+    pub fn sundr_compare(x: *const u32, y: *const u32) -> u64;
+
     pub fn sundr_check(
         users: u8,
         user: u8,

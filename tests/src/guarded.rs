@@ -75,6 +75,12 @@ impl Guarded {
         Guarded::place(&content, 8, random)
     }
 
+    /// Counts, likewise.
+    pub fn counts(counts: &[u32], random: &mut Random) -> Guarded {
+        let content: Vec<u8> = counts.iter().flat_map(|count| count.to_ne_bytes()).collect();
+        Guarded::place(&content, 4, random)
+    }
+
     fn place(content: &[u8], unit: usize, random: &mut Random) -> Guarded {
         let len = content.len();
         let pages = Pages::take(len + 3 * GUARD);

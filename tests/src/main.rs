@@ -2,6 +2,7 @@
 //! the papers alone. A piece has a file here with its checks, and one in `reference/`.
 
 mod check;
+mod compare;
 mod desk;
 mod ffi;
 mod guarded;
@@ -22,6 +23,7 @@ mod tables;
 fn main() -> std::process::ExitCode {
     let mut runner = runner::Runner::new();
     sha256::checks(&mut runner);
+    compare::checks(&mut runner);
     check::checks(&mut runner);
     desk::checks(&mut runner);
     server::checks(&mut runner);

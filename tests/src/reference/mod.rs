@@ -7,6 +7,7 @@ pub mod input;
 pub mod itable;
 pub mod server;
 pub mod sha256;
+pub mod standing;
 pub mod version;
 
 /// A refusal: its number and its two positions.
