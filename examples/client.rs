@@ -82,7 +82,7 @@ impl Refusal {
             4 => "a record's signature is not good",
             5 => "the server's list does not continue your last version: rolled back, or your record is hidden",
             6 => "your version number is the last there is: this user can make no further version",
-            7 => "two versions stand apart: forked",
+            7 => "two versions are not ordered: forked, or a record is hidden",
             _ => "not a refusal of this version of the library",
         }
     }

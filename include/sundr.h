@@ -107,7 +107,7 @@ static inline const char *sundr_refusal_text(unsigned number)
 	case SUNDR_LAST_VERSION:
 		return "your version number is the last there is: this user can make no further version";
 	case SUNDR_UNORDERED:
-		return "two versions stand apart: forked";
+		return "two versions are not ordered: forked, or a record is hidden";
 	case SUNDR_WRONG_HASH:
 		return "a hash is not the expected one: these are not the bytes that were signed";
 	case SUNDR_PATH_LENGTH:
@@ -150,7 +150,8 @@ uint64_t sundr_sha256(const uint8_t *message, size_t message_len,
  * version structure list (VSL) is such records end to end.
  *
  * What a version structure says is worth something once a check has accepted it: read the records
- * of a list after sundr_check() accepted the list, and not before.
+ * of a list after sundr_check() accepted the list, and not before, unless it is to tell, by
+ * sundr_compare(), why the list was refused.
  */
 
 /* The user whose version structure this is. */
@@ -239,6 +240,8 @@ uint64_t sundr_compare(const uint32_t x[SUNDR_MAX_USERS], const uint32_t y[SUNDR
  *                       new structure, and the first is not strictly before it.
  *
  * How two version structures stand to each other, older, newer or forked, sundr_compare() tells.
+ * The new structure counts, of each user, the own count of that user's record in the list, 0 where
+ * there is none; and of the client's own user one more than memory does.
  */
 uint64_t sundr_check(uint8_t users, uint8_t user,
 	const uint8_t *memory, size_t memory_len,

@@ -1,4 +1,5 @@
-/* The second implementation, tests/src/reference, as reference.rs and reference_server.rs export it. */
+/* The second implementation, tests/src/reference, as reference.rs, reference_server.rs and reference_standing.rs
+ * export it. */
 #ifndef REFERENCE_H
 #define REFERENCE_H
 

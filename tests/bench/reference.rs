@@ -6,15 +6,8 @@ mod reference;
 
 use reference::check::check;
 use reference::server::Server;
-use reference::standing::standing;
 use reference::version::{RECORD, USERS};
 use std::slice::from_raw_parts;
-
-/// The standing's number.
-#[no_mangle]
-pub extern "C" fn reference_compare(x: &[u32; USERS], y: &[u32; USERS]) -> u8 {
-    standing(x, y) as u8
-}
 
 /// The check of a list that has a record of each user; the client's own is its memory.
 #[no_mangle]

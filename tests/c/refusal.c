@@ -49,7 +49,7 @@ int main(void)
 	}
 	check("5: rolled back or hidden", is(SUNDR_NOT_CURRENT,
 		"the server's list does not continue your last version: rolled back, or your record is hidden"));
-	check("7: forked", is(SUNDR_UNORDERED, "two versions stand apart: forked"));
+	check("7: forked", is(SUNDR_UNORDERED, "two versions are not ordered: forked, or a record is hidden"));
 	check("13 is no refusal, and says so", is_a_line(sundr_refusal_text(REFUSALS)) && is_its_own(REFUSALS));
 	for (i = 1; i < sizeof others / sizeof others[0]; i++) {
 		sprintf(name, "%u has the sentence of 13", others[i]);

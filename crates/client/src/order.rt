@@ -1,5 +1,6 @@
 // The third stage: refusals 5, 6 and 7, by which the list goes on from the current structure.
 ghost use mathlib.Core.Path.{_≡_};
+ghost use mathlib.Core.Bool.{_||_};
 ghost use mathlib.Core.List.{List, [], _∷_};
 ghost use Prim.Native.Nat.{ℕ, _+_, _*_, _≤_, _<_};
 ghost use lib.Dec.{eqb};
@@ -8,10 +9,10 @@ ghost use Rattle.search.specs.Search.{find};
 ghost use Rattle.refusal.specs.Answer.{accepted};
 ghost use Rattle.refusal.specs.Order.{tried};
 ghost use Rattle.refusal.specs.Refusal.{said};
-ghost use Rattle.protocol.specs.Version.{size, owner};
+ghost use Rattle.protocol.specs.Version.{size, owner, countsBefore, countsStrictlyBefore};
 ghost use Rattle.protocol.specs.List.{records as recordsOf, recordAt};
 ghost use Rattle.protocol.specs.Check.{orderSteps, pairStep, current as currentOf, next as nextOf};
-ghost use Rattle.version.specs.Version.{fields};
+ghost use Rattle.version.specs.Version.{fields, countIn};
 ghost use Rattle.client.specs.Internal.Stages.{nextCounts, none};
 use crate::records;
 use refusal::Check;
@@ -69,6 +70,30 @@ fn read_list(list: &[u8], n: usize) -> [Version; 16]
     structures
 }
 
+// Whether one of two structures is at or before the other, by how their counts stand.
+fn comparable(x: [u32; 16], y: [u32; 16]) -> bool
+    ensures { λ r. ⌜ r ≡ (countsBefore (countIn x) (countIn y) || countsBefore (countIn y) (countIn x)) ⌝ }
+{
+    match version::compare(x, y) {
+        Standing::Equal => true,
+        Standing::Before => true,
+        Standing::After => true,
+        Standing::Apart => false,
+    }
+}
+
+// Whether x is strictly before y, by how their counts stand.
+fn strictly_before(x: [u32; 16], y: [u32; 16]) -> bool
+    ensures { λ r. ⌜ r ≡ countsStrictlyBefore (countIn x) (countIn y) ⌝ }
+{
+    match version::compare(x, y) {
+        Standing::Equal => false,
+        Standing::Before => true,
+        Standing::After => false,
+        Standing::Apart => false,
+    }
+}
+
 // Whether all pairs are ordered: the records with each other, and each with a structure of the counts `next`.
 fn pairs(list: &[u8], next: [u32; 16]) -> Check
     requires { ⌜ size * recordsOf (now list) ≡ length (now list) ⌝ }
@@ -86,14 +111,14 @@ fn pairs(list: &[u8], next: [u32; 16]) -> Check
         while j < n {
             let y = structures[j];
             let high = y.counts;
-            if let Standing::Apart = version::compare(low, high) {
+            if !comparable(low, high) {
                 break 'pairs;
             }
             j += 1;
         }
-        let Standing::Before = version::compare(low, next) else {
+        if !strictly_before(low, next) {
             break 'pairs;
-        };
+        }
         i += 1;
     }
     if i < n {

@@ -1,16 +1,18 @@
--- How counts stand is decided by two tests, the one order and the other way round; so each law of the four answers is one of two tests.
-use Prim.Native.Nat.{ℕ, _≤_, _<_}
+-- How counts stand is decided by two tests, the order one way and the other way round; so a law of the four answers is a law of two
+-- Booleans.
+use Prim.Native.Nat.{ℕ, _<_}
 use mathlib.Core.Bool.{Bool, true, false, cond, not, _&&_, _||_}
-use mathlib.Core.Logic.{_⊎_, inl, inr, ⊎-elim, _↔_}
+use mathlib.Core.Logic.{_⊎_, inl, inr, ⊎-elim}
 use mathlib.Core.Path.{_≡_, refl, sym, ap, subst, _∙_}
 use native.Mathlib.Decide.{decLt}
 use native.Mathlib.Omega.{arith}
-use borrow.Author.Tests.{eq-eqb, ne-eqb, le-leb, lt-leb, leb-true, leb-false}
+use borrow.Author.Tests.{eq-eqb, ne-eqb, le-leb, lt-leb, leb-false}
 use lib.Dec.{leb, eqb}
 use Rattle.search.specs.Search.{every, find}
 use Rattle.search.proofs.Bool.{not-both}
-use Rattle.search.proofs.Search.{every-intro, every-at, every-fails, first-failure, every-cong, every-both}
+use Rattle.search.proofs.Search.{every-fails, first-failure, every-cong, every-both}
 use Rattle.protocol.specs.Version.{countsBefore, countsStrictlyBefore, Standing, equal, before, after, apart, standing}
+use Rattle.protocol.proofs.Version.{at-most, at-most-intro}
 use Rattle.protocol.specs.Standing.{Stands, StandingMeans, flipped, Flipped, OrdersRead, StandingsOccur}
 
 -- What the two tests say: whether f is at or before g, and g at or before f.
@@ -43,14 +45,6 @@ module _ (f g : ℕ → ℕ) where
   all-equal =
       every-cong (λ v. eqb (f v) (g v)) (λ v. leb (f v) (g v) && leb (g v) (f v)) 0 16 (λ v a b. equal-both (f v) (g v)) ∙
       every-both (λ v. leb (f v) (g v)) (λ v. leb (g v) (f v)) 0 16
-
-  at-most : countsBefore f g ≡ true → (v : ℕ) → v < 16 → f v ≤ g v
-  unfolding countsBefore
-  at-most e v l = leb-true _ _ (every-at (λ w. leb (f w) (g w)) 0 16 e v (omega arith) l)
-
-  at-most-intro : ((v : ℕ) → v < 16 → f v ≤ g v) → countsBefore f g ≡ true
-  unfolding countsBefore
-  at-most-intro h = every-intro (λ w. leb (f w) (g w)) 0 16 (λ v a b. le-leb _ _ (h v b))
 
   some-more : countsBefore f g ≡ false → (v : ℕ) × (v < 16) × (g v < f v)
   unfolding countsBefore

@@ -43,14 +43,22 @@ module _ (u : ℕ) (handle : List ℕ) (f : ℕ → ℕ) (h : length handle ≡ 
   unfolding structure
   owner-structure = refl
 
+-- The order of counts, at each user; and of two structures.
+module _ (f g : ℕ → ℕ) where
+  pub at-most : countsBefore f g ≡ true → (v : ℕ) → v < 16 → f v ≤ g v
+  unfolding countsBefore
+  at-most e v l = leb-true _ _ (every-at (λ w. leb (f w) (g w)) 0 16 e v (omega arith) l)
+
+  pub at-most-intro : ((v : ℕ) → v < 16 → f v ≤ g v) → countsBefore f g ≡ true
+  unfolding countsBefore
+  at-most-intro h = every-intro (λ w. leb (f w) (g w)) 0 16 (λ v a b. le-leb _ _ (h v b))
+
 module _ (x y : List ℕ) where
   pub before-at : atOrBefore x y ≡ true → (v : ℕ) → v < 16 → count x v ≤ count y v
-  unfolding countsBefore
-  before-at e v l = leb-true _ _ (every-at (λ w. leb (count x w) (count y w)) 0 16 e v (omega arith) l)
+  before-at = at-most (count x) (count y)
 
   pub before-intro : ((v : ℕ) → v < 16 → count x v ≤ count y v) → atOrBefore x y ≡ true
-  unfolding countsBefore
-  before-intro f = every-intro (λ w. leb (count x w) (count y w)) 0 16 (λ v a b. le-leb _ _ (f v b))
+  before-intro = at-most-intro (count x) (count y)
 
   -- Strictly before: at or before, and less at some user.
   pub strictly-intro : atOrBefore x y ≡ true → (v : ℕ) → v < 16 → count x v < count y v → strictlyBefore x y ≡ true

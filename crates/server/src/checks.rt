@@ -41,10 +41,12 @@ fn in_order(own: u32, records: &[u8], v: usize, new: &[u32; 16]) -> bool
     if own == 0 {
         return true;
     }
-    let Standing::Before = version::compare(held::counts(records, v), *new) else {
-        return false;
-    };
-    true
+    match version::compare(held::counts(records, v), *new) {
+        Standing::Equal => false,
+        Standing::Before => true,
+        Standing::After => false,
+        Standing::Apart => false,
+    }
 }
 
 // Test 7 at user v, of a new structure of this owner with these counts.

@@ -2,5 +2,5 @@ pub mod Copied
 pub mod Form
 pub mod Laws
 pub mod Match
-pub mod Orders
+pub mod Number
 pub mod Written

@@ -4,7 +4,7 @@ use mathlib.Core.List.{List}
 use lib.ListN.{getD}
 use Rattle.layout.specs.Bytes.{values, bytesAt}
 use Rattle.protocol.specs.Version.{owner, count, equal, before, after, apart}
-use Rattle.protocol.specs.Version.{Standing as HowTheyStand}
+use Rattle.protocol.specs.Version as protocol
 use Rattle.version.specs.declared.Version.{Version}
 use Rattle.version.specs.declared.Standing.{Standing}
 use Rattle.version.specs.declared.Standing.the-variants.{Equal, Before, After, Apart}
@@ -18,7 +18,7 @@ abbrev pub countIn : List ℕ → ℕ → ℕ
 countIn cs v = getD cs v 0
 
 -- The comparison's answer.
-abbrev pub standingAs : Standing → HowTheyStand
+abbrev pub standingAs : Standing → protocol.Standing
 standingAs Equal = equal
 standingAs Before = before
 standingAs After = after

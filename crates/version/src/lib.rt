@@ -1,6 +1,6 @@
 // Version structures: the one place that knows their layout. A record's bytes are read, judged well
-// formed and written, and two structures are compared by their counts. Each call is about one record
-// by itself, of any length and bytes, and knows nothing of lists or signatures.
+// formed and written, and two structures are compared by their counts. No call knows anything of lists
+// or signatures, and each takes whatever bytes or counts it is given.
 mod sides;
 
 ghost use mathlib.Core.Path.{_≡_};
@@ -80,7 +80,7 @@ fn read_handle(x: &[u8]) -> [u8; 32]
     handle
 }
 
-// The sixteen counts of a record.
+// The sixteen counts of a record, with zeros for the bytes that it lacks.
 pub fn counts(x: &[u8]) -> [u32; 16]
     ensures { λ r. ⌜ r ≡ values (countOf (now (x .entry))) 0 16 ⌝ }
 {
@@ -186,7 +186,8 @@ pub fn write(user: u8, handle: [u8; 32], counts: [u32; 16]) -> [u8; SIZE]
     record
 }
 
-// How the counts of one structure stand to those of another.
+// How the counts of one structure stand to those of another: all are equal; it is strictly before; it
+// is strictly after; or neither is at or before the other.
 pub enum Standing {
     Equal,
     Before,

@@ -1,6 +1,6 @@
 -- The answer is the one that the number tells, in each arm. There is no loop.
 use mathlib.Core.Path.{sym, ap, _∙_}
-use Rattle.version.proofs.Orders.{answer, other, answered}
+use Rattle.version.proofs.Number.{answer, other, answered}
 use borrow.Author.Needs.{needs}
 use Rattle.version.proofs.compare.Statement.{statement}
 use Rattle.version.proofs.compare.Tie as tie

@@ -4,15 +4,15 @@ use Prim.Native.Nat.{ℕ, _≤_, _<_, _-_}
 use mathlib.Core.Bool.{true}
 use mathlib.Core.List.{List}
 use mathlib.Core.Logic.{⊎-elim}
-use mathlib.Core.Path.{_≡_, ap}
+use mathlib.Core.Path.{_≡_, ap, _∙_}
 use native.Mathlib.Omega.{arith}
 use borrow.Author.Count.{below-more}
 use borrow.Author.Needs.{needs}
+use borrow.Author.Tests.{not-true, not-false}
 use Rattle.search.proofs.Search.{span-more}
 use Rattle.protocol.specs.Check.{ordered}
 use Rattle.version.specs.Version.{fields}
 use Rattle.version.specs.declared.Version.{Version}
-use Rattle.version.proofs.Match.{is-apart, is-ordered, is-before, is-not-before}
 use Rattle.client.proofs.Apart.{apart, together, compared, compared-new}
 use Rattle.client.proofs.order.pairs.Statement.{statement}
 use Rattle.client.proofs.order.pairs.Tie as tie
@@ -54,11 +54,8 @@ mul-y c = omega arith
 array-copy-out-y : tie.Need-array-copy-out-y Inv-loop μ-loop Inv-pairs μ-pairs
 array-copy-out-y c = omega arith
 
-compare-requires : tie.Need-compare-requires Inv-loop μ-loop Inv-pairs μ-pairs
-compare-requires c κs = search needs
-
-enum-told : tie.Need-enum-told Inv-loop μ-loop Inv-pairs μ-pairs
-enum-told c = search needs
+comparable-requires : tie.Need-comparable-requires Inv-loop μ-loop Inv-pairs μ-pairs
+comparable-requires c κs = search needs
 
 add-j-2 : tie.Need-add-j-2 Inv-loop μ-loop Inv-pairs μ-pairs
 add-j-2 c = omega arith
@@ -76,15 +73,12 @@ loop-again c =
       λ new.
           span-more _ _ (l .loop .inv .2 new)
           (compared _ new _ _ _ (ap (λ (v : Version). v .counts) (f (o .pairs .i) (omega arith))) _ _ (omega arith)
-          (ap (λ (v : Version). v .counts) (f (l .loop .j) (omega arith)))
-          (is-ordered _ _ (c .before .compare .result) (c .before .compare .ensures) (c .match .keys2))),
+          (ap (λ (v : Version). v .counts) (f (l .loop .j) (omega arith))) (c .before .comparable .ensures) ∙
+          not-false _ (c .if1 .left)),
     )
 
-compare-requires-2 : tie.Need-compare-requires-2 Inv-loop μ-loop Inv-pairs μ-pairs
-compare-requires-2 c κs = search needs
-
-enum-told-2 : tie.Need-enum-told-2 Inv-loop μ-loop Inv-pairs μ-pairs
-enum-told-2 c = search needs
+strictly-before-requires : tie.Need-strictly-before-requires Inv-loop μ-loop Inv-pairs μ-pairs
+strictly-before-requires c κs = search needs
 
 add-i : tie.Need-add-i Inv-loop μ-loop Inv-pairs μ-pairs
 add-i c = omega arith
@@ -94,8 +88,7 @@ pairs-less c = omega arith
 
 pairs-again : tie.Need-pairs-again Inv-loop μ-loop Inv-pairs μ-pairs
 pairs-again c =
-    let s = c .before .before in
-    let l = s .before .before in
+    let l = c .before .before .before in
     let o = l .before .before .before .before in
     let f = o .before .read-list .ensures in (
       omega arith,
@@ -104,7 +97,8 @@ pairs-again c =
           (λ m a b.
           span-more _ (l .loop .j) (l .loop .inv .2 new)
           (compared-new _ new _ _ _ (ap (λ (v : Version). v .counts) (f (o .pairs .i) (omega arith))) _ _ (omega arith) e
-          (is-before _ _ (s .compare2 .result) (s .compare2 .ensures) (c .before .match2 .keys1)))
+          (c .before .strictly-before .ensures) ∙
+          not-false _ (c .if2 .left))
           m a (omega arith)),
     )
 
@@ -121,14 +115,14 @@ returns c =
     (λ w.
     let l = w .3 in
     let high = ap (λ (v : Version). v .counts) (o .before .read-list .ensures (l .j) (w .4 .taken)) in
-    rw (w .10)
+    rw (w .9)
     (apart (ordered list new) _ i (l .j) (l .inv .0) (l .inv .1) lower (l .inv .2 new)
-    (compared _ new _ _ _ low _ _ (w .4 .taken) high (is-apart _ _ (w .7 .result) (w .7 .ensures) (w .8 .keys1)))))
+    (compared _ new _ _ _ low _ _ (w .4 .taken) high (w .7 .ensures) ∙ not-true _ (w .8 .taken))))
     (λ w.
     let l = w .3 in
     rw (w .7)
     (apart (ordered list new) _ i (l .j) (l .inv .0) (l .inv .1) lower (l .inv .2 new)
-    (compared-new _ new _ _ _ low _ _ (w .4 .left) e (is-not-before _ _ (w .5 .result) (w .5 .ensures) (w .6 .keys2))))))
+    (compared-new _ new _ _ _ low _ _ (w .4 .left) e (w .5 .ensures) ∙ not-true _ (w .6 .taken)))))
     (c .before .pairs-test .came)
 
 returns-2 : tie.Need-returns-2 Inv-loop μ-loop Inv-pairs μ-pairs
@@ -152,13 +146,11 @@ pairs-spec =
     loop-holds
     mul-y
     array-copy-out-y
-    compare-requires
-    enum-told
+    comparable-requires
     add-j-2
     loop-less
     loop-again
-    compare-requires-2
-    enum-told-2
+    strictly-before-requires
     add-i
     pairs-less
     pairs-again

@@ -6,7 +6,7 @@ use native.Mathlib.Omega.{arith}
 use Rattle.search.specs.Search.{find, every}
 use Rattle.version.specs.Version.{countIn}
 use Rattle.version.specs.Internal.Sides.{sides as sidesOf}
-use Rattle.version.proofs.Orders.{one-more}
+use Rattle.version.proofs.Number.{one-more}
 use Rattle.version.proofs.sides.sides.Statement.{statement}
 use Rattle.version.proofs.sides.sides.Tie as tie
 
