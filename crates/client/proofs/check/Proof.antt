@@ -8,10 +8,10 @@ sizes-requires : tie.Need-sizes-requires
 sizes-requires c κs = search needs
 
 enum-told : tie.Need-enum-told
-enum-told c = search needs
+enum-told c = c .match .keys1
 
 enum-told-2 : tie.Need-enum-told-2
-enum-told-2 c = search needs
+enum-told-2 c = c .match .keys2
 
 returns : tie.Need-returns
 returns c =
@@ -22,10 +22,10 @@ forms-requires c κs =
     let s = c .before .before .sizes in sized _ _ _ _ _ _ _ (s .result) (s .ensures) (c .before .match .keys1) .1 .one-mark-each
 
 enum-told-3 : tie.Need-enum-told-3
-enum-told-3 c = search needs
+enum-told-3 c = c .match2 .keys1
 
 enum-told-4 : tie.Need-enum-told-4
-enum-told-4 c = search needs
+enum-told-4 c = c .match2 .keys2
 
 returns-2 : tie.Need-returns-2
 returns-2 c =
@@ -49,10 +49,10 @@ order-requires c κs =
     )
 
 enum-told-5 : tie.Need-enum-told-5
-enum-told-5 c = search needs
+enum-told-5 c = c .match3 .keys1
 
 enum-told-6 : tie.Need-enum-told-6
-enum-told-6 c = search needs
+enum-told-6 c = c .match3 .keys2
 
 returns-3 : tie.Need-returns-3
 returns-3 c =

@@ -10,10 +10,10 @@ make-check-requires : tie.Need-make-check-requires
 make-check-requires c κs = search needs
 
 enum-told : tie.Need-enum-told
-enum-told c = search needs
+enum-told c = c .match .keys1
 
 enum-told-2 : tie.Need-enum-told-2
-enum-told-2 c = search needs
+enum-told-2 c = c .match .keys2
 
 empty-requires : tie.Need-empty-requires
 empty-requires c κs = search needs

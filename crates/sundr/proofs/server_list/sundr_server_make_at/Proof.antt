@@ -19,10 +19,10 @@ make-requires : tie.Need-make-requires
 make-requires c κs = search needs
 
 enum-told : tie.Need-enum-told
-enum-told c = search needs
+enum-told c = c .match .keys1
 
 enum-told-2 : tie.Need-enum-told-2
-enum-told-2 c = search needs
+enum-told-2 c = c .match .keys2
 
 check-word-requires : tie.Need-check-word-requires
 check-word-requires c κs = search needs

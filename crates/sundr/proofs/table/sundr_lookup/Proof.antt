@@ -20,7 +20,7 @@ lookup-requires : tie.Need-lookup-requires
 lookup-requires c κs = search needs
 
 enum-told : tie.Need-enum-told
-enum-told c = search needs
+enum-told c = c .match .keys1
 
 copy-requires : tie.Need-copy-requires
 copy-requires c κs = search needs
@@ -29,7 +29,7 @@ word-requires : tie.Need-word-requires
 word-requires c κs = search needs
 
 enum-told-2 : tie.Need-enum-told-2
-enum-told-2 c = search needs
+enum-told-2 c = c .match .keys2
 
 word-requires-2 : tie.Need-word-requires-2
 word-requires-2 c κs = search needs
