@@ -9,10 +9,11 @@
  * Lent memory. Each buffer is passed as a pointer, then the number of its elements. The
  * pointer may be NULL where that number is 0; otherwise all the elements must be there. A
  * pointer without a number, to a struct, to the bytes of a version structure or to its sixteen
- * counts, points to all of it, and is never NULL. Each is aligned for its elements, which
- * matters for i-numbers and for sixteen counts alone. A buffer that a call writes (a pointer to
- * non-const) must not overlap another of its buffers. There is no other duty: whatever the
- * bytes, the numbers and the lengths are, each call ends, with the answer that its comment gives.
+ * counts, points to all of it, and is never NULL. Where there are elements, it is aligned for
+ * them, which matters for i-numbers and for sixteen counts alone. A buffer that a call writes (a
+ * pointer to non-const) must not overlap another of its buffers. There is no other duty: whatever
+ * the bytes, the numbers and the lengths are, each call ends, with the answer that its comment
+ * gives.
  *
  * Answers. Each call answers one number of 64 bits:
  *
