@@ -1,11 +1,12 @@
 -- Laws of the values of a function at places in a row, and of a list that is filled with them from the front.
-use Prim.Native.Nat.{ℕ, zero, suc, _+_, _≤_, _<_}
-use mathlib.Core.List.{List, [], _∷_, _++_, append-nil}
+use Prim.Native.Nat.{ℕ, zero, suc, _+_, _-_, _≤_, _<_}
+use mathlib.Core.List.{List, [], _∷_, _++_}
 use mathlib.Core.Path.{_≡_, refl, sym, ap, ap₂, _∙_}
+use native.Mathlib.Decide.{decLe}
 use native.Mathlib.Numerals.{add-one}
 use native.Mathlib.Omega.{arith}
-use lib.ListN.{length, getD, take, drop, set, replicate, length-drop, length-replicate, drop-of-length-le}
-use lib.Seq.{take-suc-set, take-length, length-take-le, getD-take, getD-drop, ext-getD}
+use lib.ListN.{length, getD, take, drop, set, replicate, length-append, length-drop, length-replicate, getD-replicate, List·getD-append, List·getD-eq-default}
+use lib.Seq.{take-suc-set, take-length, length-take-le, getD-take, getD-drop, getD-append-add, ext-getD}
 use Rattle.layout.specs.Bytes.{values, bytesAt}
 
 pub length-values : (f : ℕ → ℕ) (i k : ℕ) → length (values f i k) ≡ k
@@ -37,14 +38,37 @@ values-part b a n h =
     let z : 0 + i ≡ i = omega arith in
     getD-values _ 0 n i k ∙ (ap (λ j. getD b (a + j) 0) z ∙ (sym (getD-drop a b i 0) ∙ sym (getD-take n (drop a b) i 0 k))))
 
--- The same, where they are copied over n zeros.
+-- The m of them that are there, copied over n zeros.
+pub rest-copied :
+    (b s : List ℕ) (a m n : ℕ) → m ≤ n → m ≤ length b - a → ((i : ℕ) → m ≤ i → i < n → length b ≤ a + i) → s ≡ take m (drop a b) →
+    take (length s) s ++ drop (length s) (replicate n 0) ≡ bytesAt b a n
+rest-copied b s a m n few h past e =
+    let l : length s ≡ m = rw e (length-take-le m (drop a b) (simp length-drop (omega arith))) in
+    let zeros : List ℕ = drop m (replicate n 0) in
+    let r : length (s ++ zeros) ≡ n = simp (length-append, length-drop, length-replicate) (omega arith) in
+    rw (take-length, l)
+    (ext-getD 0 (s ++ zeros) _ (r ∙ sym (length-values _ 0 n))
+    (λ i k.
+    let v : getD (bytesAt b a n) i 0 ≡ getD b (a + i) 0 =
+    getD-values _ 0 n i (omega arith) ∙ (let z : 0 + i ≡ i = omega arith in ap (λ j. getD b (a + j) 0) z) in
+    elim (decLe m i) [
+      | yes f ↦
+          let p : i ≡ length s + (i - m) = omega arith in
+          let q : m + (i - m) ≡ i = omega arith in
+          ap (λ x. getD (s ++ zeros) x 0) p ∙
+          (getD-append-add s zeros (i - m) 0 ∙
+          (getD-drop m (replicate n 0) (i - m) 0 ∙
+          (rw q (getD-replicate {A = ℕ} n i 0 0 (omega arith)) ∙ sym (v ∙ List·getD-eq-default b 0 (past i f (omega arith))))))
+      | no f ↦
+          List·getD-append s zeros 0 i (omega arith) ∙
+          (ap (λ x. getD x i 0) e ∙ (getD-take m (drop a b) i 0 (omega arith) ∙ (getD-drop a b i 0 ∙ sym v)))
+    ]))
+
+-- The same, where all are there.
 pub part-copied :
     (b s : List ℕ) (a n : ℕ) → a + n ≤ length b → s ≡ take n (drop a b) →
     take (length s) s ++ drop (length s) (replicate n 0) ≡ bytesAt b a n
-part-copied b s a n h e =
-    let l : length s ≡ n = rw e (length-take-le n (drop a b) (simp length-drop (omega arith))) in
-    let z : drop {A = ℕ} n (replicate n 0) ≡ [] = drop-of-length-le (replicate n 0) {i = n} (simp length-replicate (omega arith)) in
-    rw (take-length, l, z) (append-nil s ∙ (e ∙ sym (values-part b a n h)))
+part-copied b s a n h e = rest-copied b s a n n (omega arith) (omega arith) (λ i l k. absurd (omega arith)) e
 
 values-last : (f : ℕ → ℕ) (i k : ℕ) → values f i (suc k) ≡ values f i k ++ (f (i + k) ∷ [])
 unfolding values

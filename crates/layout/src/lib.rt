@@ -43,15 +43,21 @@ pub fn join(a: u8, b: u8, c: u8, d: u8) -> u32
     (a as u32) * 16777216 + (b as u32) * 65536 + (c as u32) * 256 + (d as u32)
 }
 
-// The number in the four bytes k places after another. Where all four are there, one test is
-// enough for all, and the compiler makes one load of them.
+// The number in the four bytes at a place, where all are there: the compiler makes one load of them.
+fn joined(b: &[u8], at: usize) -> u32
+    requires { ⌜ at + 4 ≤ length (now b) ⌝ }
+    ensures { λ r. ⌜ r ≡ four (now (b .entry)) at ⌝ }
+{
+    join(b[at], b[at + 1], b[at + 2], b[at + 3])
+}
+
+// The number in the four bytes k places after another. Where all are there, one test is enough.
 fn quad(b: &[u8], at: usize, k: usize) -> u32
     requires { ⌜ k ≤ 4 ⌝ }
     ensures { λ r. ⌜ r ≡ four (now (b .entry)) (at + k) ⌝ }
 {
     if k + 4 <= rest(b, at) {
-        let i = at + k;
-        return join(b[i], b[i + 1], b[i + 2], b[i + 3]);
+        return joined(b, at + k);
     }
     join(
         behind(b, at, k),
@@ -75,10 +81,13 @@ fn pair(high: u32, low: u32) -> u64
     (high as u64) * 4294967296 + (low as u64)
 }
 
-// The number in the eight bytes at a place.
+// The number in the eight bytes at a place. Where all are there, one test and one load are enough.
 pub fn u64_at(b: &[u8], at: usize) -> u64
     ensures { λ r. ⌜ r ≡ eight (now (b .entry)) at ⌝ }
 {
+    if 8 <= rest(b, at) {
+        return pair(joined(b, at), joined(b, at + 4));
+    }
     pair(quad(b, at, 0), quad(b, at, 4))
 }
 
@@ -103,19 +112,18 @@ pub fn u64_bytes(x: u64) -> [u8; 8]
     [h[0], h[1], h[2], h[3], l[0], l[1], l[2], l[3]]
 }
 
-// The 32 bytes from a place on. Where all are there, they are copied at one go.
+// The 32 bytes from a place on, as many as are there copied at one go.
 pub fn bytes32(b: &[u8], at: usize) -> [u8; 32]
     ensures { λ r. ⌜ r ≡ bytesAt (now (b .entry)) at 32 ⌝ }
 {
     let mut out = [0u8; 32];
-    if 32 <= rest(b, at) {
+    let n = rest(b, at);
+    if 32 <= n {
         bytes::copy(&b[at..at + 32], &mut out);
         return out;
     }
-    let mut k = 0;
-    while k < 32 {
-        out[k] = behind(b, at, k);
-        k += 1;
+    if 0 < n {
+        bytes::copy(&b[at..at + n], &mut out);
     }
     out
 }

@@ -1,86 +1,82 @@
--- All thirty-two bytes are there and are copied, or each is read by itself.
--- The invariant: the places passed hold what is read there.
-use Prim.Native.Nat.{_+_, _-_, _≤_}
-use mathlib.Core.Path.{_≡_, refl, sym, ap, _∙_}
+-- All of the bytes, or those that are there, are copied over the zeros.
+use Prim.Native.Nat.{_+_, _-_}
+use mathlib.Core.List.{[]}
+use mathlib.Core.Path.{_≡_, refl, ap, _∙_}
 use native.Mathlib.Omega.{arith}
-use lib.ListN.{length, take, drop, length-set}
-use lib.Seq.{take-all}
+use lib.ListN.{take, drop}
 use borrow.Author.Needs.{needs}
-use Rattle.layout.specs.Bytes.{values, bytesAt}
-use Rattle.layout.proofs.Values.{part-copied, filled}
+use Rattle.layout.proofs.Values.{part-copied, rest-copied}
 use Rattle.layout.proofs.bytes32.Statement.{statement}
 use Rattle.layout.proofs.bytes32.Tie as tie
 
-abbrev Inv-loop : tie.InvT-loop
-Inv-loop b at out₀ k₀ out k = (k ≤ 32) × (length out ≡ 32) × (take k out ≡ bytesAt b at k)
-
-abbrev μ-loop : tie.MeasureT-loop
-μ-loop b at out₀ k₀ out k = 32 - k
-
-rest-requires : tie.Need-rest-requires Inv-loop μ-loop
+rest-requires : tie.Need-rest-requires
 rest-requires c κs = search needs
 
-add-copy : tie.Need-add-copy Inv-loop μ-loop
+add-copy : tie.Need-add-copy
 add-copy c = search needs
 
-sub-copy : tie.Need-sub-copy Inv-loop μ-loop
+sub-copy : tie.Need-sub-copy
 sub-copy c = search needs
 
-part-copy-start : tie.Need-part-copy-start Inv-loop μ-loop
+part-copy-start : tie.Need-part-copy-start
 part-copy-start c = search needs
 
-part-copy-end : tie.Need-part-copy-end Inv-loop μ-loop
+part-copy-end : tie.Need-part-copy-end
 part-copy-end c = search needs
 
-slice-aggregate-copy : tie.Need-slice-aggregate-copy Inv-loop μ-loop
+slice-aggregate-copy : tie.Need-slice-aggregate-copy
 slice-aggregate-copy c = search needs
 
-copy-requires : tie.Need-copy-requires Inv-loop μ-loop
+copy-requires : tie.Need-copy-requires
 copy-requires c κs = search needs
 
-returns : tie.Need-returns Inv-loop μ-loop
+returns : tie.Need-returns
 returns c =
-    let fits = c .before .before .before .before in
-    let a = fits .before .before .before .args in
-    let there : a .at + 32 ≤ length (a .b .now) = omega (arith, fits .before .rest .ensures) in
-    let n : a .at + 32 - a .at ≡ 32 = omega arith in
-    c .before .copy .ensures .1 ∙ part-copied (a .b .now) _ (a .at) 32 there (ap (λ m. take m (drop (a .at) (a .b .now))) n)
+    let n = c .before .before .before .before .before in
+    let a = n .before .before .args in
+    let e : a .at + 32 - a .at ≡ 32 = omega arith in
+    c .before .copy .ensures .1 ∙
+    part-copied (a .b .now) _ (a .at) 32 (omega (arith, n .rest .ensures)) (ap (λ m. take m (drop (a .at) (a .b .now))) e)
 
-loop-holds : tie.Need-loop-holds Inv-loop μ-loop
-unfolding values
-loop-holds c = (omega arith, refl, refl)
+add-copy-2 : tie.Need-add-copy-2
+add-copy-2 c = search needs
 
-behind-requires : tie.Need-behind-requires Inv-loop μ-loop
-behind-requires c κs = search needs
+sub-copy-2 : tie.Need-sub-copy-2
+sub-copy-2 c = search needs
 
-array-write-out : tie.Need-array-write-out Inv-loop μ-loop
-array-write-out c = search needs
+part-copy-start-2 : tie.Need-part-copy-start-2
+part-copy-start-2 c = search needs
 
-add-k : tie.Need-add-k Inv-loop μ-loop
-add-k c = search needs
+part-copy-end-2 : tie.Need-part-copy-end-2
+part-copy-end-2 c = search needs
 
-loop-less : tie.Need-loop-less Inv-loop μ-loop
-loop-less c = search needs
+slice-aggregate-copy-2 : tie.Need-slice-aggregate-copy-2
+slice-aggregate-copy-2 c = search needs
 
-loop-again : tie.Need-loop-again Inv-loop μ-loop
-loop-again c =
-    let l = c .before .before .loop in (
-      omega arith,
-      simp length-set (l .inv .1),
-      filled _ (l .out) (l .k) _ (omega arith) (l .inv .2) (c .behind .ensures),
-    )
+copy-requires-2 : tie.Need-copy-requires-2
+copy-requires-2 c κs = search needs
 
-returns-2 : tie.Need-returns-2 Inv-loop μ-loop
+returns-2 : tie.Need-returns-2
 returns-2 c =
-    let l = c .before .loop in
-    let e : l .k ≡ 32 = omega arith in sym (take-all 32 (l .out) (omega arith)) ∙ (rw e at (l .inv .2))
+    let part = c .before .before .before in
+    let n = part .before .before .before in
+    let a = n .before .before .args in
+    let m = n .rest .result in
+    let r = n .rest .ensures in
+    let e : a .at + m - a .at ≡ m = omega arith in
+    c .before .copy2 .ensures .1 ∙
+    rest-copied (a .b .now) _ (a .at) m 32 (omega arith) (omega arith) (λ i l k. omega arith) (ap (λ m. take m (drop (a .at) (a .b .now))) e)
+
+returns-3 : tie.Need-returns-3
+returns-3 c =
+    let n = c .before .before in
+    let a = n .before .before .args in
+    rest-copied (a .b .now) [] (a .at) 0 32 (omega arith) (omega arith) (λ i l k. omega (arith, n .rest .ensures)) refl
 
 pub bytes32-spec : {M : Type 1} → statement M
 bytes32-spec =
     tie.close
     (tie.spec
-    Inv-loop
-    μ-loop
     rest-requires
     add-copy
     sub-copy
@@ -89,10 +85,11 @@ bytes32-spec =
     slice-aggregate-copy
     copy-requires
     returns
-    loop-holds
-    behind-requires
-    array-write-out
-    add-k
-    loop-less
-    loop-again
-    returns-2)
+    add-copy-2
+    sub-copy-2
+    part-copy-start-2
+    part-copy-end-2
+    slice-aggregate-copy-2
+    copy-requires-2
+    returns-2
+    returns-3)

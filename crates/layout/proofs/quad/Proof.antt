@@ -24,35 +24,13 @@ add-if1 c = search needs
 rest-requires : tie.Need-rest-requires
 rest-requires c κs = search needs
 
-add-i : tie.Need-add-i
-add-i c = search needs
+add-joined : tie.Need-add-joined
+add-joined c = search needs
 
-shared-slice-read-join : tie.Need-shared-slice-read-join
-shared-slice-read-join c = search needs
-
-add-join : tie.Need-add-join
-add-join c = search needs
-
-shared-slice-read-join-2 : tie.Need-shared-slice-read-join-2
-shared-slice-read-join-2 c = search needs
-
-add-join-2 : tie.Need-add-join-2
-add-join-2 c = search needs
-
-shared-slice-read-join-3 : tie.Need-shared-slice-read-join-3
-shared-slice-read-join-3 c = search needs
-
-add-join-3 : tie.Need-add-join-3
-add-join-3 c = search needs
-
-shared-slice-read-join-4 : tie.Need-shared-slice-read-join-4
-shared-slice-read-join-4 c = search needs
-
-join-requires : tie.Need-join-requires
-join-requires c κs = search needs
+joined-requires : tie.Need-joined-requires
+joined-requires c κs = search needs
 
 returns : tie.Need-returns
-unfolding four
 returns c = search needs
 
 behind-requires : tie.Need-behind-requires
@@ -76,14 +54,14 @@ add-behind-3 c = search needs
 behind-requires-4 : tie.Need-behind-requires-4
 behind-requires-4 c κs = search needs
 
-join-requires-2 : tie.Need-join-requires-2
-join-requires-2 c κs = search needs
+join-requires : tie.Need-join-requires
+join-requires c κs = search needs
 
 returns-2 : tie.Need-returns-2
 returns-2 c =
     let third = c .before .before in
     joined _ _ _ _ _ _ _ _ (third .before .before .behind .ensures) (third .before .behind2 .ensures) (third .behind3 .ensures)
-    (c .before .behind4 .ensures) (c .join2 .ensures)
+    (c .before .behind4 .ensures) (c .join .ensures)
 
 pub quad-spec : {M : Type 1} → statement M
 quad-spec =
@@ -91,15 +69,8 @@ quad-spec =
     (tie.spec
     add-if1
     rest-requires
-    add-i
-    shared-slice-read-join
-    add-join
-    shared-slice-read-join-2
-    add-join-2
-    shared-slice-read-join-3
-    add-join-3
-    shared-slice-read-join-4
-    join-requires
+    add-joined
+    joined-requires
     returns
     behind-requires
     add-behind
@@ -108,5 +79,5 @@ quad-spec =
     behind-requires-3
     add-behind-3
     behind-requires-4
-    join-requires-2
+    join-requires
     returns-2)
