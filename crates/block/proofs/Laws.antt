@@ -10,7 +10,9 @@ use borrow.Author.Tests.{eq-eqb, ne-eqb, le-leb, lt-leb, le-ltb, lt-ltb}
 use Rattle.layout.specs.Strings.{zeros}
 use Rattle.itable.specs.declared.Link.{Link}
 use Rattle.itable.specs.Lookup.{lastAtMost}
-use Rattle.itable.specs.Block.{kind, used, number, kindDue, usedDue, ascending, unusedZero, firstDue, wellFormed}
+use Rattle.itable.proofs.BlockBound.{last-tells}
+use Rattle.search.proofs.Search.{every-intro}
+use Rattle.itable.specs.Block.{kind, used, number, kindDue, usedDue, ascending, unusedZero, firstDue, belowBound, boundBelow, wellFormed}
 
 module _ (due : ℕ) (b : List ℕ) (k : ℕ) (ek : k ≡ kind b) where
   pub below-root : (due ≡ 0 → ⊥) → eqb k due ≡ kindDue due b
@@ -51,7 +53,32 @@ module _ (due first : ℕ) (b : List ℕ) where
   unfolding firstDue
   child-first z n e = rw (ne-eqb due 0 z, e)
 
--- The five tests in order: the first that fails, or the last.
+-- The bound below slot j: that of the block is handed down, or the next slot has it.
+module _ (bound : ℕ) (b : List ℕ) (j u : ℕ) (eu : u ≡ used b) where
+  pub handed-down : u ≤ j + 1 → bound ≡ boundBelow bound b j
+  unfolding boundBelow
+  handed-down l = rw (sym eu, le-ltb (j + 1) u l)
+
+  pub next-number : j + 1 < u → (n : ℕ) → n ≡ number b (j + 1) → n ≡ boundBelow bound b j
+  unfolding boundBelow
+  next-number l n e = rw (sym eu, lt-ltb (j + 1) u l) e
+
+-- The numbers and their bound: there is none, no number is there, or the last of those that ascend tells.
+module _ (bound : ℕ) (b : List ℕ) where
+  pub unbounded : bound ≡ 0 → true ≡ belowBound bound b
+  unfolding belowBound
+  unbounded z = rw (eq-eqb bound 0 z)
+
+  module _ (n : bound ≡ 0 → ⊥) (u : ℕ) (eu : u ≡ used b) where
+    pub none-bounded : u ≡ 0 → true ≡ belowBound bound b
+    unfolding belowBound
+    none-bounded z = rw (ne-eqb bound 0 n) (sym (every-intro _ 0 (used b) (λ j a l. absurd (omega arith))))
+
+    pub last-bounded : (u ≡ 0 → ⊥) → ascending b ≡ true → (x : ℕ) → x ≡ number b (u - 1) → ltb x bound ≡ belowBound bound b
+    unfolding belowBound
+    last-bounded some asc x e = rw (ne-eqb bound 0 n, e, eu) (last-tells bound b asc (omega arith))
+
+-- The six tests in order: the first that fails, or the last.
 module _ (k : Link) (b : List ℕ) where
   pub wrong-kind : kindDue (k .due) b ≡ false → false ≡ wellFormed k b
   unfolding wellFormed
@@ -76,10 +103,14 @@ module _ (k : Link) (b : List ℕ) where
         unfolding wellFormed
         not-zero e = rw (d, u, a, rest, e)
 
-        pub last-test :
-            zeros b (2 + 40 * n) (642 - (2 + 40 * n)) ≡ true → (r : Bool) → r ≡ firstDue (k .due) (k .first) b → r ≡ wellFormed k b
-        unfolding wellFormed
-        last-test e r f = rw (d, u, a, rest, e) f
+        module _ (z : zeros b (2 + 40 * n) (642 - (2 + 40 * n)) ≡ true) where
+          pub other-first : firstDue (k .due) (k .first) b ≡ false → false ≡ wellFormed k b
+          unfolding wellFormed
+          other-first e = rw (d, u, a, rest, z, e)
+
+          pub last-test : firstDue (k .due) (k .first) b ≡ true → (r : Bool) → r ≡ belowBound (k .bound) b → r ≡ wellFormed k b
+          unfolding wellFormed
+          last-test e r f = rw (d, u, a, rest, z, e) f
 
 -- The last of the first n numbers that is at most i, by the last of them.
 module _ (f : ℕ → ℕ) (i n : ℕ) (h : 0 < n) where

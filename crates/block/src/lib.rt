@@ -4,11 +4,12 @@
 pub mod fill;
 
 ghost use mathlib.Core.Path.{_≡_};
+ghost use mathlib.Core.Bool.{true};
 ghost use Prim.Native.Nat.{_-_};
 ghost use lib.Dec.{eqb};
 ghost use Rattle.search.specs.Search.{find};
-ghost use Rattle.itable.specs.Block.{kind as kindOf, used as usedOf, number as numberOf, value as valueOf, toChild};
-ghost use Rattle.itable.specs.Block.{kindDue, usedDue, ascending as ascendingOf, firstDue, wellFormed};
+ghost use Rattle.itable.specs.Block.{kind as kindOf, used as usedOf, number as numberOf, value as valueOf, boundBelow, toChild};
+ghost use Rattle.itable.specs.Block.{kindDue, usedDue, ascending as ascendingOf, firstDue, belowBound, wellFormed};
 ghost use Rattle.itable.specs.Lookup.{lastAtMost};
 use itable::Link;
 
@@ -72,13 +73,25 @@ fn kind_below(kind: u8) -> u8
     kind - 1
 }
 
-// What leads from the block to the child in slot j.
-pub fn child(b: &[u8], j: u8) -> Link
-    ensures { λ r. ⌜ r ≡ toChild (now (b .entry)) j ⌝ }
+// The bound below slot j of a block that has this bound: the number in the next slot if that is used,
+// otherwise the block's own bound, which is handed down.
+fn bound_below(bound: u64, b: &[u8], j: u8) -> u64
+    ensures { λ r. ⌜ r ≡ boundBelow bound (now (b .entry)) j ⌝ }
+{
+    if used(b) as usize <= (j as usize) + 1 {
+        return bound;
+    }
+    number(b, j + 1)
+}
+
+// What leads from the block, to which a link leads, to the child in slot j.
+pub fn child(link: Link, b: &[u8], j: u8) -> Link
+    ensures { λ r. ⌜ r ≡ toChild link (now (b .entry)) j ⌝ }
 {
     Link {
         due: kind_below(kind(b)),
         first: number(b, j),
+        bound: bound_below(link.bound, b, j),
         hash: value(b, j),
     }
 }
@@ -142,6 +155,22 @@ fn first_due(due: u8, first: u64, b: &[u8]) -> bool
     number(b, 0) == first
 }
 
+// Whether the numbers in the used slots are below the bound; none is where it is 0. They ascend, so the
+// last of them tells.
+fn below_bound(bound: u64, b: &[u8]) -> bool
+    requires { ⌜ ascendingOf (now b) ≡ true ⌝ }
+    ensures { λ r. ⌜ r ≡ belowBound bound (now (b .entry)) ⌝ }
+{
+    if bound == 0 {
+        return true;
+    }
+    let used = used(b);
+    if used == 0 {
+        return true;
+    }
+    number(b, used - 1) < bound
+}
+
 // Whether the block is well formed where the link leads to it.
 pub fn well_formed(link: Link, b: &[u8]) -> bool
     ensures { λ r. ⌜ r ≡ wellFormed link (now (b .entry)) ⌝ }
@@ -158,7 +187,10 @@ pub fn well_formed(link: Link, b: &[u8]) -> bool
     if !layout::zero_between(b, FIRST_NUMBER + SLOT * (used(b) as usize), SIZE) {
         return false;
     }
-    first_due(link.due, link.first, b)
+    if !first_due(link.due, link.first, b) {
+        return false;
+    }
+    below_bound(link.bound, b)
 }
 
 // The first used slot whose number is i; the number of used slots if there is none.

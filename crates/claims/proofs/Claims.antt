@@ -18,6 +18,10 @@ use Rattle.protocol.proofs.CommitsCounted.{commits-counted}
 use Rattle.protocol.proofs.ListingsAscend.{listings-ascend}
 use Rattle.itable.proofs.LookupMeans.{lookup-means}
 use Rattle.itable.proofs.NoneOnlyAtRoot.{none-only-at-root}
+use Rattle.itable.proofs.LeafGives.{leaf-gives}
+use Rattle.itable.proofs.WrittenLeafGives.{written-leaf-gives}
+use Rattle.itable.proofs.Bounds.{bounds-kept, bound-refused, nearest-least, bound-positive}
+use Rattle.itable.proofs.NeighbourRefused.{neighbour-refused}
 use Rattle.itable.proofs.BlockCheckMeans.{block-check-means}
 use Rattle.itable.proofs.EntryMeans.{entry-means}
 use Rattle.itable.proofs.WrittenAnswers.{written-answers}
@@ -58,6 +62,13 @@ claims =
       queues-held = queues-held;
       lookup-means = lookup-means;
       none-only-at-root = none-only-at-root;
+      leaf-gives = leaf-gives;
+      written-leaf-gives = written-leaf-gives;
+      bounds-kept = bounds-kept;
+      bound-refused = bound-refused;
+      neighbour-refused = neighbour-refused;
+      nearest-least = nearest-least;
+      bound-positive = bound-positive;
       entry-means = entry-means;
       written-answers = written-answers;
       otherwise-collides = otherwise-collides;

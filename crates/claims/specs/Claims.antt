@@ -17,6 +17,8 @@ use Rattle.protocol.specs.LastTurn.{LastTurn}
 use Rattle.protocol.specs.Commits.{CommitsCounted}
 use Rattle.protocol.specs.Listings.{ListingsAscend}
 use Rattle.itable.specs.LookupMeaning.{LookupMeans, NoneOnlyAtRoot}
+use Rattle.itable.specs.LeafGives.{LeafGives, WrittenLeafGives}
+use Rattle.itable.specs.Bounds.{BoundPositive, NearestLeast, BoundsKept, BoundRefused, NeighbourRefused}
 use Rattle.itable.specs.InodeMeaning.{BlockCheckMeans}
 use Rattle.itable.specs.Answers.{EntryMeans, AtMostBlocks, WrittenAnswers, OtherwiseCollides, BufferAnswersAsTable}
 use Rattle.input.specs.UsersRefused.{UsersRefused}
@@ -74,6 +76,20 @@ pub record Claims : Type 1 where
   pub lookup-means : LookupMeans
   -- Only in a root is there no number at most the one that is looked up.
   pub none-only-at-root : NoneOnlyAtRoot
+  -- Whatever number a leaf on an accepted path holds, the same path gives its handle.
+  pub leaf-gives : LeafGives
+  -- And for each file of a table there is such a path, of written blocks.
+  pub written-leaf-gives : WrittenLeafGives
+  -- In an accepted lookup each number of a block is below every bound on the way there: the number in the next used slot of each block above.
+  pub bounds-kept : BoundsKept
+  -- A block on the way that has another number is refused with 3, at its own index.
+  pub bound-refused : BoundRefused
+  -- There is such a block: a leaf that holds its neighbour's number.
+  pub neighbour-refused : NeighbourRefused
+  -- One bound is carried: what is below the nearest is below every bound on the way.
+  pub nearest-least : NearestLeast
+  -- No bound is 0, which stands where there is none.
+  pub bound-positive : BoundPositive
   -- What a table says of an i-number: the handle of the file of that number, or that no file has it.
   pub entry-means : EntryMeans
   -- Written blocks answer each lookup as the table does.

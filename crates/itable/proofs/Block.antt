@@ -19,9 +19,9 @@ use Rattle.itable.specs.Table.{Level, usedIn, slots, block, above}
 value-part : (b : List ℕ) (j : ℕ) → 42 + 40 * j ≤ length b → value b j ≡ take 32 (drop (10 + 40 * j) b)
 value-part b j h = values-part b (10 + 40 * j) 32 (omega arith)
 
--- What leads to block k of kind κ over L, where it is not the root.
-abbrev pub toBlock : ℕ → Level → ℕ → Link
-toBlock κ L k = record { due = κ; first = L .number (16 * k); hash = sha256 (block κ L k) }
+-- What leads to block k of kind κ over L, where it is not the root and its numbers have this bound.
+abbrev pub toBlock : ℕ → Level → ℕ → ℕ → Link
+toBlock κ L bound k = record { due = κ; first = L .number (16 * k); bound = bound; hash = sha256 (block κ L k) }
 
 -- Every value of a level has 32 bytes.
 abbrev pub Sized : Level → Type 0

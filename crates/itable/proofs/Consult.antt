@@ -16,22 +16,22 @@ use Rattle.itable.specs.Block.{size, kind, used, number, value, toChild,
 use Rattle.itable.specs.declared.Link.{Link}
 use Rattle.itable.specs.Lookup.{Entry, absent, entryIn, lastAtMost, known, answerAt, consult}
 
--- What follows along a slot of b, which is block d of the path.
-abbrev pub along : List ℕ → ℕ → ℕ → ℕ → List ℕ → ℕ → Answer Entry
-along path i left d b j = consult path i left (suc d) (toChild b j)
+-- What follows along a slot of b, which is block d of the path and to which k leads.
+abbrev pub along : List ℕ → ℕ → ℕ → ℕ → Link → List ℕ → ℕ → Answer Entry
+along path i left d k b j = consult path i left (suc d) (toChild k b j)
 
 module _ (path : List ℕ) (i left d : ℕ) (k : Link) where
   -- A block of the wanted hash that is well formed at its place is passed.
   pub consulted :
       (b : List ℕ) → part size path d ≡ b → sha256 b ≡ k .hash → wellFormed k b ≡ true →
-      consult path i (suc left) d k ≡ answerAt b i left (suc d) (along path i left d b)
+      consult path i (suc left) d k ≡ answerAt b i left (suc d) (along path i left d k b)
   unfolding consult inOrder
   consulted b here e f = rw (here, f, ← e, same-refl (sha256 b))
 
   -- Where the lookup accepts, the block had the wanted hash, and what follows accepts.
   pub accepting :
       {e : Entry} → consult path i (suc left) d k ≡ accepted e →
-      (sha256 (part size path d) ≡ k .hash) × (answerAt (part size path d) i left (suc d) (along path i left d (part size path d)) ≡ accepted e)
+      (sha256 (part size path d) ≡ k .hash) × (answerAt (part size path d) i left (suc d) (along path i left d k (part size path d)) ≡ accepted e)
   unfolding consult
   accepting h =
       let p = passed

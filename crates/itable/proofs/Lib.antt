@@ -1,5 +1,7 @@
 pub mod Block
 pub mod Place
+pub mod BlockMeaning
+pub mod BlockBound
 pub mod Form
 pub mod Cover
 pub mod Consult
@@ -13,6 +15,9 @@ pub mod WrittenAnswers
 pub mod EntryMeans
 pub mod BufferAnswersAsTable
 pub mod BlockCheckMeans
-pub mod BlockMeaning
 pub mod LookupMeans
 pub mod NoneOnlyAtRoot
+pub mod LeafGives
+pub mod WrittenLeafGives
+pub mod Bounds
+pub mod NeighbourRefused

@@ -21,13 +21,13 @@ use Rattle.refusal.proofs.Means.{Stage, Unless, tests-mean, goes-on, ends as st
 use Rattle.sha256.specs.Sha256.{sha256}
 use Rattle.itable.specs.Block.{size, kind, used, number, value, toRoot, toChild, wellFormed}
 use Rattle.itable.specs.declared.Link.{Link}
-use Rattle.itable.specs.Table.{Level}
 use Rattle.itable.specs.Lookup.{Entry, found, absent, known, answerAt, consult, pathSteps, lookup}
 use Rattle.itable.specs.LookupMeaning.{Sizes, WellFormed, Passes, Ends, in-leaf, not-in-leaf, none-leads, Leads, Says, ends, leads, LookupMeans}
 use Rattle.itable.specs.LookupMeaning.{Fails, missing, wrong-hash, malformed, left-over, later, Why, lengths, along}
 use Rattle.itable.proofs.Place.{ascends-lt, last-slot, last-none, entry-found, entry-absent}
 use Rattle.itable.proofs.Consult as consulting
 use Rattle.itable.proofs.BlockMeaning.{formed-means}
+use Rattle.itable.proofs.BlockBound.{slotsOf}
 
 -- The last of n places at which a test holds, or that there is none.
 last-place :
@@ -72,10 +72,9 @@ module _ (b : List ℕ) (i : ℕ) where
   module _ (left d : ℕ) (on : ℕ → Answer Entry) where
     ends-answer : (k : Link) → WellFormed k b → (e : Entry) → Ends b i e → answerAt b i left d on ≡ known left d e
     ends-answer k w e (in-leaf j leaf l q) =
-        let rows : Level = record { count = used b; number = number b; value = value b } in
         consulting.answer-leaf b i left d on leaf ∙
         ap (known left d)
-        (entry-found (number b) (value b) (used b) i j l (λ m h r. let a = ascends-lt rows (w .ascending) m j h l in omega arith) q)
+        (entry-found (number b) (value b) (used b) i j l (λ m h r. let a = ascends-lt (slotsOf b) (w .ascending) m j h l in omega arith) q)
     ends-answer k w e (not-in-leaf leaf f) =
         consulting.answer-leaf b i left d on leaf ∙ ap (known left d) (entry-absent (number b) (value b) (used b) i f)
     ends-answer k w e (none-leads inner f) =
@@ -100,23 +99,23 @@ module _ (path : List ℕ) (i : ℕ) where
     fails-form e f = rw (f, ← e, same-refl (sha256 block))
 
     module _ (w : Passes path d k) where
-      passes : consult path i (suc left) d k ≡ answerAt block i left (suc d) (consulting.along path i left d block)
+      passes : consult path i (suc left) d k ≡ answerAt block i left (suc d) (consulting.along path i left d k block)
       passes =
           consulting.consulted path i left d k block refl (w .hashed) (formed-means k block .1 (w .formed))
 
       passes-ends : (e : Entry) → Ends block i e → consult path i (suc left) d k ≡ known left (suc d) e
       passes-ends e f =
-          passes ∙ ends-answer block i left (suc d) (consulting.along path i left d block) k (w .formed) e f
+          passes ∙ ends-answer block i left (suc d) (consulting.along path i left d k block) k (w .formed) e f
 
-      passes-leads : (j : ℕ) → Leads block i j → consult path i (suc left) d k ≡ consult path i left (suc d) (toChild block j)
-      passes-leads j l = passes ∙ leads-answer block i left (suc d) (consulting.along path i left d block) j l
+      passes-leads : (j : ℕ) → Leads block i j → consult path i (suc left) d k ≡ consult path i left (suc d) (toChild k block j)
+      passes-leads j l = passes ∙ leads-answer block i left (suc d) (consulting.along path i left d k block) j l
 
   says-from : (d : ℕ) (k : Link) (e : Entry) (left : ℕ) → d + left ≡ parts size path → Says path i d k e → consult path i left d k ≡ accepted e
   says-from d k e zero h (ends w f l) = absurd (omega arith)
   says-from d k e (suc left) h (ends w f l) = let z : left ≡ 0 = omega arith in passes-ends left d k w e f ∙ rw z
   says-from d k e zero h (leads j w l s) = absurd (omega (arith, w .there))
   says-from d k e (suc left) h (leads j w l s) =
-      passes-leads left d k w j l ∙ says-from (suc d) (toChild (part size path d) j) e left (omega arith) s
+      passes-leads left d k w j l ∙ says-from (suc d) (toChild k (part size path d) j) e left (omega arith) s
 
   fails-from :
       (d : ℕ) (k : Link) (n p left : ℕ) → d + left ≡ parts size path → Fails path i d k n p → consult path i left d k ≡ refused n p 0
@@ -135,7 +134,7 @@ module _ (path : List ℕ) (i : ℕ) where
   fails-from d k n p (suc (suc left)) h (left-over e w f l) = passes-ends (suc left) d k w e f
   fails-from d k n p zero h (later j w l s) = absurd (omega (arith, w .there))
   fails-from d k n p (suc left) h (later j w l s) =
-      passes-leads left d k w j l ∙ fails-from (suc d) (toChild (part size path d) j) n p left (omega arith) s
+      passes-leads left d k w j l ∙ fails-from (suc d) (toChild k (part size path d) j) n p left (omega arith) s
 
   -- One of both is the case.
   says-or-fails :
@@ -157,7 +156,7 @@ module _ (path : List ℕ) (i : ℕ) where
       (eq-or-lt-of-le {n = 0} {m = left} (omega arith)))
       (λ x.
       ⊎-elim (λ s. inl (s .0, leads (x .0) w (x .1) (s .1))) (λ s. inr (s .0, s .1, later (x .0) w (x .1) (s .2)))
-      (says-or-fails (suc d) (toChild b (x .0)) left (omega arith)))
+      (says-or-fails (suc d) (toChild k b (x .0)) left (omega arith)))
       (ends-or-leads b i))
       (λ f. inr (3, d, malformed there hashed (λ w. not-both (formed-means k b .1 w) f)))
       (bool-cases (wellFormed k b)))

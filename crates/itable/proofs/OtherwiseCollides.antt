@@ -18,7 +18,7 @@ use Rattle.itable.specs.declared.Link.{Link}
 use Rattle.itable.specs.Table.{Level, wide, block, above, blocks, written, rootHash}
 use Rattle.itable.specs.Lookup.{Entry, absent, entryOf, answerAt, consult, lookup, pathSteps}
 use Rattle.itable.specs.Answers.{Collision, OtherwiseCollides}
-use Rattle.itable.proofs.Block.{Sized, toBlock, kind-block}
+use Rattle.itable.proofs.Block.{Sized, kind-block}
 use Rattle.itable.proofs.Place.{Ascends, Place}
 use Rattle.itable.proofs.Cover.{cover, leaf-entry}
 use Rattle.itable.proofs.Consult.{along, accepting, answer-leaf, known-accepts}
@@ -37,7 +37,7 @@ module _ (T : Level) (i : ℕ) (bytes : List ℕ) (n : ℕ) (path : List ℕ) wh
   written-or-collides :
       (κ : ℕ) (L : Level) (base c left d : ℕ) (k : Link) (e : Entry) → Stands bytes n κ L base → c < wide (L .count) →
       k .hash ≡ sha256 (block κ L c) → d < parts size path → consult path i (suc left) d k ≡ accepted e →
-      (answerAt (block κ L c) i left (suc d) (along path i left d (block κ L c)) ≡ accepted e) ⊎ Collision bytes n path
+      (answerAt (block κ L c) i left (suc d) (along path i left d k (block κ L c)) ≡ accepted e) ⊎ Collision bytes n path
   written-or-collides κ L base c left d k e st l r m h =
       let a = accepting path i left d k h in
       ⊎-elim
@@ -67,7 +67,7 @@ module _ (T : Level) (i : ℕ) (bytes : List ℕ) (n : ℕ) (path : List ℕ) wh
       (sym
       (sym (leaf-entry T i p q s 3 asc) ∙
       known-accepts left (suc d)
-      (sym (answer-leaf (block 3 T (cover p)) i left (suc d) (along path i left d (block 3 T (cover p))) (kind-block 3 T (cover p))) ∙ g))))
+      (sym (answer-leaf (block 3 T (cover p)) i left (suc d) (along path i left d k (block 3 T (cover p))) (kind-block 3 T (cover p))) ∙ g))))
       (λ c. inr c)
       (written-or-collides 3 T base (cover p) left d k e st (omega (arith, q .within)) r (omega arith) h)
 
@@ -82,10 +82,10 @@ module _ (T : Level) (i : ℕ) (bytes : List ℕ) (n : ℕ) (path : List ℕ) wh
       elim (decLe p 0) [
         | yes l ↦
             let o : p ≡ 0 = omega arith in
-            inl (sym (z o ∙ known-accepts left (suc d) (sym (none-leads κ L i p q pos low path left d o) ∙ g)))
+            inl (sym (z o ∙ known-accepts left (suc d) (sym (none-leads κ L i p q pos low path left d k o) ∙ g)))
         | no l ↦
-            says left (suc d) (toBlock κ L (cover p)) e refl (omega arith)
-            (sym (child-leads κ L i p q pos low path left d (omega arith)) ∙ g)
+            says left (suc d) _ e refl (omega arith)
+            (sym (child-leads κ L i p q pos low path left d k (omega arith)) ∙ g)
       ])
       (λ c. inr c)
       (written-or-collides (suc κ) (above κ L) base (cover ((p + 15) / 16)) left d k e st (omega (arith, q .within)) r

@@ -20,10 +20,10 @@ use Rattle.itable.specs.Lookup.{entryOf, consult}
 use Rattle.itable.specs.Answers.{AllBelow, pathOf, WrittenAnswers}
 use Rattle.sha256.proofs.Laws.{sha256-length}
 use Rattle.itable.proofs.Block.{toBlock, kind-block}
-use Rattle.itable.proofs.Form.{root-form, child-form}
+use Rattle.itable.proofs.Form.{Bounded, root-form, child-form}
 use Rattle.itable.proofs.Cover.{cover, leaf-entry}
 use Rattle.itable.proofs.Consult.{along, consulted, answer-leaf}
-use Rattle.itable.proofs.Descend.{none-leads, child-leads}
+use Rattle.itable.proofs.Descend.{none-leads, child-leads, child-bounded}
 use Rattle.itable.proofs.Rows.{length-written}
 use Rattle.itable.proofs.Paths.{Reads, path-length, path-reads, lookup-consults}
 use Rattle.itable.proofs.Climb.{Tier, Rooted, climb}
@@ -37,7 +37,7 @@ module _ (T : Level) (i : ℕ) where
     pub few : length indices ≤ κ - 2
     pub finds :
         (path : List ℕ) (d : ℕ) (k : Link) → sha256 (block κ L (cover p)) ≡ k .hash → wellFormed k (block κ L (cover p)) ≡ true →
-        Reads (written T) path d indices → consult path i (length indices) d k ≡ accepted (entryOf T i)
+        Bounded L (cover p) (k .bound) → Reads (written T) path d indices → consult path i (length indices) d k ≡ accepted (entryOf T i)
 
   leaf-finds : (p : ℕ) → Tier T i 3 T p 0 → Finds 3 T p
   leaf-finds p a =
@@ -48,9 +48,9 @@ module _ (T : Level) (i : ℕ) where
         below = (a .stands .below (cover p) l, tt);
         some = omega arith;
         few = omega arith;
-        finds = λ path d k e f r.
+        finds = λ path d k e f w r.
             consulted path i 0 d k b (r .0 ∙ a .stands .at (cover p) l) e f ∙
-            (answer-leaf b i 0 (suc d) (along path i 0 d b) (kind-block 3 T (cover p)) ∙
+            (answer-leaf b i 0 (suc d) (along path i 0 d k b) (kind-block 3 T (cover p)) ∙
             ap accepted (leaf-entry T i p (a .place) (a .sized) 3 (a .ascends)));
       }
 
@@ -69,9 +69,9 @@ module _ (T : Level) (i : ℕ) where
               below = (c .stands .below up l, tt);
               some = omega arith;
               few = omega (arith, a .low);
-              finds = λ path d k e f r.
+              finds = λ path d k e f w r.
                   consulted path i 0 d k b (r .0 ∙ c .stands .at up l) e f ∙
-                  (none-leads κ L i p (a .place) pos (a .low) path 0 d o ∙ ap accepted (sym (a .none o)));
+                  (none-leads κ L i p (a .place) pos (a .low) path 0 d k o ∙ ap accepted (sym (a .none o)));
             }
         | no z ↦
             record {
@@ -79,13 +79,14 @@ module _ (T : Level) (i : ℕ) where
               below = (c .stands .below up l, x .below);
               some = omega arith;
               few = omega (arith, a .low, x .few);
-              finds = λ path d k e f r.
+              finds = λ path d k e f w r.
                   consulted path i (length (x .indices)) d k b (r .0 ∙ c .stands .at up l) e f ∙
-                  (child-leads κ L i p (a .place) pos (a .low) path (length (x .indices)) d (omega arith) ∙
-                  x .finds path (suc d) (toBlock κ L (cover p)) refl
+                  (child-leads κ L i p (a .place) pos (a .low) path (length (x .indices)) d k (omega arith) ∙
+                  (let bounded = child-bounded κ L i p (a .place) pos (a .low) (k .bound) (omega arith) w in
+                  x .finds path (suc d) (toBlock κ L _ (cover p)) refl
                   (child-form L (a .sized) κ (cover p) (omega (arith, a .place .within)) (a .ascends) (omega (arith, a .low))
-                  (omega (arith, a .place .within)))
-                  (r .1));
+                  (omega (arith, a .place .within)) _ bounded)
+                  bounded (r .1)));
             }
       ]
 
@@ -116,6 +117,6 @@ written-answers T t i =
       answers =
           lookup-consults handle i path (length (x .indices)) (sha256-length _)
           (path-length (written T) n l (x .indices) (x .below)) (x .some) (omega (arith, x .few, r .high)) ∙
-          x .finds path 0 (toRoot handle) (ap sha256 (sym (r .is-root))) (root-fits r handle)
+          x .finds path 0 (toRoot handle) (ap sha256 (sym (r .is-root))) (root-fits r handle) (inl refl)
           (path-reads (written T) n l (x .indices) (x .below) [] 0 refl);
     }

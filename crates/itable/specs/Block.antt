@@ -27,13 +27,17 @@ number b j = eight b (2 + 40 * j)
 abbrev pub value : List ℕ → ℕ → List ℕ
 value b j = bytesAt b (10 + 40 * j) 32
 
--- What leads to a block: the kind due there, 0 for the root, the number in the slot, and the hash. To the root leads the handle, to a child slot
--- j of its parent.
+-- What leads to a block: the kind due there, 0 for the root, the number in the slot, the bound of its numbers, 0 where there is none, and the
+-- hash. To the root leads the handle, to a child slot j of its parent b, to which k leads. The bound is "the number in the next used slot" there,
+-- and where j is the last, the one "handed down from above" to b.
 abbrev pub toRoot : List ℕ → Link
-toRoot handle = record { due = 0; first = 0; hash = handle }
+toRoot handle = record { due = 0; first = 0; bound = 0; hash = handle }
 
-abbrev pub toChild : List ℕ → ℕ → Link
-toChild b j = record { due = kind b - 1; first = number b j; hash = value b j }
+unfoldable pub boundBelow : ℕ → List ℕ → ℕ → ℕ
+boundBelow bound b j = cond (ltb (j + 1) (used b)) (number b (j + 1)) bound
+
+abbrev pub toChild : Link → List ℕ → ℕ → Link
+toChild k b j = record { due = kind b - 1; first = number b j; bound = boundBelow (k .bound) b j; hash = value b j }
 
 -- "The root's kind may be 3, 4 or 5, each next one is one less."
 unfoldable pub kindDue : ℕ → List ℕ → Bool
@@ -50,11 +54,18 @@ ascending b = every (λ j. ltb (number b j) (number b (j + 1))) 0 (used b - 1)
 unfoldable pub unusedZero : List ℕ → Bool
 unusedZero b = zeros b (2 + 40 * used b) (640 - 40 * used b)
 
--- "A child's first number equals the number in the slot that led to it. Nothing further ties a child to its parent."
+-- "A child's first number equals the number in the slot that led to it."
 unfoldable pub firstDue : ℕ → ℕ → List ℕ → Bool
 firstDue due first b = eqb due 0 || eqb (number b 0) first
+
+-- 02's request c), over 01's "Nothing further ties a child to its parent.": "every number in a child must also be below the number in the next
+-- used slot, and below any such bound handed down from above." No bound is 0, which stands where there is none.
+unfoldable pub belowBound : ℕ → List ℕ → Bool
+belowBound bound b = eqb bound 0 || every (λ j. ltb (number b j) bound) 0 (used b)
 
 -- A block is well formed where k leads to it.
 unfoldable pub wellFormed : Link → List ℕ → Bool
 wellFormed k b =
-    kindDue (k .due) b && (usedDue (k .due) b && (ascending b && (unusedZero b && firstDue (k .due) (k .first) b)))
+    kindDue (k .due) b &&
+    (usedDue (k .due) b &&
+    (ascending b && (unusedZero b && (firstDue (k .due) (k .first) b && belowBound (k .bound) b))))

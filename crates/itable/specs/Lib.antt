@@ -7,3 +7,5 @@ pub mod LookupMeaning
 pub mod Inode
 pub mod InodeMeaning
 pub mod Answers
+pub mod LeafGives
+pub mod Bounds

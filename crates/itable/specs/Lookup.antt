@@ -58,7 +58,7 @@ consult path i zero d k = refused 9 d 0
 consult path i (suc left) d k =
     inOrder
     (unless (same (sha256 (part size path d)) (k .hash)) 8 d 0 ∷ unless (wellFormed k (part size path d)) 3 d 0 ∷ [])
-    (answerAt (part size path d) i left (suc d) (λ j. consult path i left (suc d) (toChild (part size path d) j)))
+    (answerAt (part size path d) i left (suc d) (λ j. consult path i left (suc d) (toChild k (part size path d) j)))
 
 -- "Order: 2 for the handle and the path": a path of 1 to 3 whole blocks.
 unfoldable pub pathSteps : List ℕ → List ℕ → List Step

@@ -19,9 +19,11 @@ pub record Sizes (handle path : List ℕ) : Type 0 where
   pub some : 1 ≤ parts size path
   pub few : parts size path ≤ 3
 
--- 3: a block is well formed where k leads to it: `due` is the kind due, 0 for the root, and `first` the number in the slot that led there.
+-- 3: a block is well formed where k leads to it: `due` is the kind due, 0 for the root, `first` the number in the slot that led there, and
+-- `bound` the number below which all of its numbers stay, 0 where there is none.
 -- "The root's kind may be 3, 4 or 5, each next one is one less." "A leaf has 0 to 16 used slots, 0 only where it is the root. An inner block
 -- has 1 to 16. Slot numbers strictly ascend; unused slots are all zero." "A child's first number equals the number in the slot that led to it."
+-- 02's request c): "every number in a child must also be below the number in the next used slot, and below any such bound handed down from above."
 pub record WellFormed (k : Link) (b : List ℕ) : Type 0 where
   pub root-kind : k .due ≡ 0 → (3 ≤ kind b) × (kind b ≤ 5)
   pub child-kind : (k .due ≡ 0 → ⊥) → kind b ≡ k .due
@@ -30,6 +32,7 @@ pub record WellFormed (k : Link) (b : List ℕ) : Type 0 where
   pub ascending : (j : ℕ) → suc j < used b → number b j < number b (suc j)
   pub unused-zero : (x : ℕ) → 2 + 40 * used b ≤ x → x < size → getD b x 0 ≡ 0
   pub first-number : (k .due ≡ 0 → ⊥) → number b 0 ≡ k .first
+  pub below : (k .bound ≡ 0 → ⊥) → (j : ℕ) → j < used b → number b j < k .bound
 
 -- Block d of the path is there and passes 8, then 3.
 pub record Passes (path : List ℕ) (d : ℕ) (k : Link) : Type 0 where
@@ -56,7 +59,7 @@ pub data Says (path : List ℕ) (i : ℕ) : ℕ → Link → Entry → Type 0 wh
       {d : ℕ} {k : Link} {e : Entry} → Passes path d k → Ends (part size path d) i e → suc d ≡ parts size path → Says path i d k e
   leads :
       {d : ℕ} {k : Link} {e : Entry} (j : ℕ) → Passes path d k → Leads (part size path d) i j →
-      Says path i (suc d) (toChild (part size path d) j) e → Says path i d k e
+      Says path i (suc d) (toChild k (part size path d) j) e → Says path i d k e
 
 -- The path is refused with a number and a first position, from block d on: there is no block d; it fails 8, or 3; it is not the last, and
 -- what the i-number has is known; or it leads on to such a block.
@@ -71,7 +74,7 @@ pub data Fails (path : List ℕ) (i : ℕ) : ℕ → Link → ℕ → ℕ → Ty
       Fails path i d k 9 (suc d)
   later :
       {d : ℕ} {k : Link} (j : ℕ) {n p : ℕ} → Passes path d k → Leads (part size path d) i j →
-      Fails path i (suc d) (toChild (part size path d) j) n p → Fails path i d k n p
+      Fails path i (suc d) (toChild k (part size path d) j) n p → Fails path i d k n p
 
 -- Why a lookup is refused with a number and two positions.
 pub data Why (handle : List ℕ) (i : ℕ) (path : List ℕ) : ℕ → ℕ → ℕ → Type 0 where
@@ -88,5 +91,5 @@ LookupMeans =
 -- "If there is none (only at a root)": where slot j of an inner block leads on to c, and c is well formed there, c has a number at most i.
 abbrev pub NoneOnlyAtRoot : Type 0
 NoneOnlyAtRoot =
-    (b c : List ℕ) (i j : ℕ) → Leads b i j → 4 ≤ kind b → WellFormed (toChild b j) c →
+    (k : Link) (b c : List ℕ) (i j : ℕ) → Leads b i j → 4 ≤ kind b → WellFormed (toChild k b j) c →
     ((m : ℕ) → m < used c → i < number c m) → ⊥

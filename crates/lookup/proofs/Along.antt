@@ -35,7 +35,7 @@ module _ (path : List ℕ) (i n d : ℕ) (k : Link) where
     block = take m (drop (size * d) path)
 
     abbrev on : ℕ → Answer Entry
-    on j = consult path i (n - d - 1) (suc d) (toChild block j)
+    on j = consult path i (n - d - 1) (suc d) (toChild k block j)
 
     next : consult path i (n - d) d k ≡ following s block (n - d - 1) d on
     unfolding consult
@@ -50,7 +50,7 @@ module _ (path : List ℕ) (i n d : ℕ) (k : Link) where
         subst (λ a. Looks a r) (sym (ap (λ x. following x block (n - d - 1) d on) q) ∙ (sym next ∙ g)) l
 
     pub leads-on :
-        {j : ℕ} → s ≡ Leads j → {a : Answer Entry} → consult path i (n - d) d k ≡ a → {c : Link} → c ≡ toChild block j →
+        {j : ℕ} → s ≡ Leads j → {a : Answer Entry} → consult path i (n - d) d k ≡ a → {c : Link} → c ≡ toChild k block j →
         consult path i (n - (d + 1)) (d + 1) c ≡ a
     leads-on q g e =
         let x : n - (d + 1) ≡ n - d - 1 = omega arith in

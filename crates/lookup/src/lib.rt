@@ -125,6 +125,7 @@ fn to_root(handle: &[u8]) -> Link
     Link {
         due: 0,
         first: 0,
+        bound: 0,
         hash: layout::bytes32(handle, 0),
     }
 }
@@ -145,7 +146,7 @@ fn walk(root: Link, number: u64, path: &[u8], n: usize) -> Looked
                 return ended(e, b, n - d - 1, d);
             }
             Step::Leads(j) => {
-                link = block::child(b, j);
+                link = block::child(link, b, j);
                 d += 1;
             }
         }

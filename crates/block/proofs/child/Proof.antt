@@ -1,4 +1,4 @@
--- The three parts of the link, each as it is read.
+-- The four parts of the link, each as it is read.
 use borrow.Author.Needs.{needs}
 use Rattle.block.proofs.child.Statement.{statement}
 use Rattle.block.proofs.child.Tie as tie
@@ -12,6 +12,9 @@ kind-below-requires c κs = search needs
 number-requires : tie.Need-number-requires
 number-requires c κs = search needs
 
+bound-below-requires : tie.Need-bound-below-requires
+bound-below-requires c κs = search needs
+
 value-requires : tie.Need-value-requires
 value-requires c κs = search needs
 
@@ -20,4 +23,4 @@ returns c = cc
 
 pub child-spec : {M : Type 1} → statement M
 child-spec =
-    tie.close (tie.spec kind-requires kind-below-requires number-requires value-requires returns)
+    tie.close (tie.spec kind-requires kind-below-requires number-requires bound-below-requires value-requires returns)

@@ -1,7 +1,7 @@
--- The five tests of the definition, in its order; each `return false` has the one that fails.
+-- The six tests of the definition, in its order; each `return false` has the one that fails.
 use mathlib.Core.Path.{sym, _∙_}
 use borrow.Author.Tests.{not-true, not-false}
-use Rattle.block.proofs.Laws.{wrong-kind, wrong-use, not-ascending, not-zero, last-test}
+use Rattle.block.proofs.Laws.{wrong-kind, wrong-use, not-ascending, not-zero, other-first, last-test}
 use borrow.Author.Needs.{needs}
 use Rattle.block.proofs.well_formed.Statement.{statement}
 use Rattle.block.proofs.well_formed.Tie as tie
@@ -63,7 +63,26 @@ first-due-requires c κs = search needs
 
 returns-5 : tie.Need-returns-5
 returns-5 c =
-    let zero = c .before in
+    let zero = c .before .before in
+    let read = zero .before .before in
+    let order = read .before in
+    let slots = order .before .before in
+    let kind = slots .before .before in
+    other-first _ _ (sym (kind .before .kind-due .ensures) ∙ not-false _ (kind .if1 .left))
+    (sym (slots .before .used-due .ensures) ∙ not-false _ (slots .if2 .left))
+    (sym (order .before .ascending .ensures) ∙ not-false _ (order .if3 .left)) _ (read .used .ensures)
+    (sym (zero .before .zero-between .ensures) ∙ not-false _ (zero .if4 .left))
+    (sym (c .before .first-due .ensures) ∙ not-true _ (c .if5 .taken))
+
+below-bound-requires : tie.Need-below-bound-requires
+below-bound-requires c κs =
+    let order = c .before .before .before .before .before in
+    sym (order .before .ascending .ensures) ∙ not-false _ (order .if3 .left)
+
+returns-6 : tie.Need-returns-6
+returns-6 c =
+    let first = c .before in
+    let zero = first .before .before in
     let read = zero .before .before in
     let order = read .before in
     let slots = order .before .before in
@@ -71,7 +90,8 @@ returns-5 c =
     last-test _ _ (sym (kind .before .kind-due .ensures) ∙ not-false _ (kind .if1 .left))
     (sym (slots .before .used-due .ensures) ∙ not-false _ (slots .if2 .left))
     (sym (order .before .ascending .ensures) ∙ not-false _ (order .if3 .left)) _ (read .used .ensures)
-    (sym (zero .before .zero-between .ensures) ∙ not-false _ (zero .if4 .left)) _ (c .first-due .ensures)
+    (sym (zero .before .zero-between .ensures) ∙ not-false _ (zero .if4 .left))
+    (sym (first .before .first-due .ensures) ∙ not-false _ (first .if5 .left)) _ (c .below-bound .ensures)
 
 pub well-formed-spec : {M : Type 1} → statement M
 well-formed-spec =
@@ -90,4 +110,6 @@ well-formed-spec =
     zero-between-requires
     returns-4
     first-due-requires
-    returns-5)
+    returns-5
+    below-bound-requires
+    returns-6)
