@@ -172,7 +172,7 @@ static void fetch(struct client *desk, struct sundr_server *server, const char *
 
 static void legend(void)
 {
-	tell("\nSUNDR: files on a server that nobody has to trust. A story in six scenes.\n");
+	tell("\nSUNDR: files on a server that nobody has to trust. A story in seven scenes.\n");
 	tell("  user 0, the maintainer     keeps a driver tree on the server: %d files, of which file %d is",
 		FILES, CHANNEL_TABLE);
 	tell("                             the channel table, the radio channels that a board may use");
@@ -318,6 +318,13 @@ static void from_list_to_text(struct client *desk, struct sundr_server *server)
 	fetch(desk, server, "channels 1 to 13", LINK_BY_LINK);
 }
 
+/* What of a reply was refused, and for what. */
+static void tell_position(const char *what, uint64_t answer)
+{
+	tell("  %-7s%d at %u   %s", what, sundr_refusal(answer), sundr_first(answer),
+		sundr_refusal_text(sundr_refusal(answer)));
+}
+
 /* A fetch that gets this reply, and has to refuse it at this position. */
 static void try_reply(struct client *desk, struct sundr_server *server, const char *what,
 	const struct reply *reply, uint32_t position)
@@ -327,8 +334,7 @@ static void try_reply(struct client *desk, struct sundr_server *server, const ch
 	uint64_t answer = judge(sundr_i_handle(maintainers_record(&accepted)), reply, file_handle);
 
 	must_refuse(answer, SUNDR_WRONG_HASH, position, 0);
-	tell("  %-7s%d at %u   %s", what, sundr_refusal(answer), sundr_first(answer),
-		sundr_refusal_text(sundr_refusal(answer)));
+	tell_position(what, answer);
 }
 
 static void swapped_pieces(struct client *desk, struct sundr_server *server, const struct sundr_server *old_disk)
@@ -357,6 +363,31 @@ static void swapped_pieces(struct client *desk, struct sundr_server *server, con
 	try_reply(desk, server, "block", &lie, 1);
 }
 
+/*
+ * A table that another tool made: the leaf of this file has its neighbour's first number in its last slot, and every
+ * hash is right. The file is in leaf 12 of its block of kind 4, which is the root's first.
+ */
+static void the_neighbours_file(const struct sundr_server *server)
+{
+	struct reply reply = ask_server(sundr_i_handle(server->records), CHANNEL_TABLE);
+	uint8_t *middle = reply.path + SUNDR_TABLE_BLOCK_LEN, *leaf = middle + SUNDR_TABLE_BLOCK_LEN;
+	const size_t slots = 2, slot_len = 8 + SUNDR_SHA256_LEN;
+	uint8_t i_handle[SUNDR_HANDLE_LEN], file_handle[SUNDR_HANDLE_LEN];
+	uint64_t answer;
+
+	tell("\n7. A file of the neighbour's\n");
+	tell("A table that another tool made: the leaf of file %d also holds the first file of the next leaf.", CHANNEL_TABLE);
+	tell("Who walks over the leaves sees that file there, and its number leads elsewhere. Every hash is");
+	tell("right, and the leaf is refused.");
+	memcpy(leaf + slots + 15 * slot_len, middle + slots + 13 * slot_len, 8);
+	must_accept(sundr_sha256(leaf, SUNDR_TABLE_BLOCK_LEN, middle + slots + 12 * slot_len + 8, SUNDR_SHA256_LEN), "a hash");
+	must_accept(sundr_sha256(middle, SUNDR_TABLE_BLOCK_LEN, reply.path + slots + 8, SUNDR_SHA256_LEN), "a hash");
+	must_accept(sundr_sha256(reply.path, SUNDR_TABLE_BLOCK_LEN, i_handle, sizeof i_handle), "a hash");
+	answer = judge(i_handle, &reply, file_handle);
+	must_refuse(answer, SUNDR_MALFORMED, 2, 0);
+	tell_position("leaf", answer);
+}
+
 int main(int argc, char **argv)
 {
 	struct client maintainer = { MAINTAINER, { 0 }, { 0 }, 0 };
@@ -375,6 +406,7 @@ int main(int argc, char **argv)
 	honest_turns(&maintainer, &desk, &server);
 	from_list_to_text(&desk, &server);
 	swapped_pieces(&desk, &server, &old_disk);
+	the_neighbours_file(&server);
 	tell("\nAll came out as told, in the library and, where a bar stands, in the desk program too.");
 	return 0;
 }

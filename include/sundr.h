@@ -46,7 +46,7 @@ extern "C" {
 #endif
 
 /* The version of the library that this header belongs to. */
-#define SUNDR_VERSION "0.5.0"
+#define SUNDR_VERSION "0.6.0"
 #define SUNDR_VERSION_MAJOR 0
 #define SUNDR_VERSION_MINOR 5
 #define SUNDR_VERSION_PATCH 0
@@ -370,9 +370,10 @@ uint64_t sundr_table_write(const uint64_t *numbers, size_t count,
  * Reads the i-handle, the file's i-number, and the path: one to three blocks end to end, the root
  * first, each next one the child that the i-number leads to. Accepted: the first result is 1, and
  * the file's handle is in out[0..32); or it is 0, the path shows no such file, and out is as it
- * was. The second result is 0. In a table that sundr_table_write() made, a path that shows no such
- * file says that there is none; in one made otherwise, the file may stand where its number does not
- * lead, and no lookup finds it.
+ * was. The second result is 0. A path that is accepted gives every file that its leaf holds. In a
+ * table that sundr_table_write() made, a path that shows no such file says that there is none; in one
+ * made otherwise, a leaf to which the file's number does not lead may hold it, and then no path to
+ * that leaf is accepted.
  *
  * Refused, with out as it was; SUNDR_LENGTH is tried first, then each block in its turn, its hash
  * before anything else in it, as far as the i-number leads:
@@ -380,7 +381,8 @@ uint64_t sundr_table_write(const uint64_t *numbers, size_t count,
  *   SUNDR_WRONG_HASH    first: the block whose hash is not the i-handle, or not the one that its
  *                       parent gives.
  *   SUNDR_MALFORMED     first: the block that is not well formed, is not of the kind due there,
- *                       or does not start with the i-number that its parent gives.
+ *                       does not start with the i-number that its parent gives, or has one that is
+ *                       not below that of the next used slot, in its parent or further up.
  *   SUNDR_PATH_LENGTH   first: the number of blocks that were read, one more being needed, or
  *                       others being left over.
  */
