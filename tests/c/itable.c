@@ -1,4 +1,4 @@
-/* The i-table and the check of a file's block, through include/sundr.h: P11, P12, vectors, and a session. */
+/* The i-table and the check of a file's block, through include/sundr.h: P11, P12, vectors, bounds, and a session. */
 #include "sundr.h"
 
 #include <string.h>
@@ -217,6 +217,50 @@ static void session(void)
 	check("session: a hash beyond the last block", refused(check_block(2, 20000 - 16384), SUNDR_MALFORMED, 0));
 }
 
+/* The next slot of a block: a number, big-endian, and a handle or a hash. */
+static void add_slot(uint8_t *block, uint64_t number, const uint8_t value[32])
+{
+	uint8_t *slot = block + 2 + 40 * block[1]++;
+
+	put(slot, (uint32_t)(number >> 32));
+	put(slot + 4, (uint32_t)number);
+	memcpy(slot + 8, value, 32);
+}
+
+/* A path under fitting hashes to a leaf of the file 7 and another; a neighbour, if there is one, begins with 20. */
+static void forge(uint64_t other, int has_neighbour)
+{
+	uint8_t *leaf = path + SUNDR_TABLE_BLOCK_LEN, hash[32];
+
+	memset(path, 0, sizeof path);
+	leaf[0] = 3;
+	add_slot(leaf, 7, handles + 32 * 1);
+	add_slot(leaf, other, handles + 32 * 2);
+	sundr_sha256(leaf, SUNDR_TABLE_BLOCK_LEN, hash, sizeof hash);
+	path[0] = 4;
+	add_slot(path, 7, hash);
+	if (has_neighbour)
+		add_slot(path, 20, hash);
+	sundr_sha256(path, SUNDR_TABLE_BLOCK_LEN, root, sizeof root);
+}
+
+/* 02, request c: a leaf that holds numbers of its neighbour is refused, and what an accepted one holds is found. */
+static void bounds(void)
+{
+	forge(20, 1);
+	check("bounds: a leaf with its neighbour's first number is refused", refused(look_up(7, 2), SUNDR_MALFORMED, 1)
+		&& refused(look_up(8, 2), SUNDR_MALFORMED, 1) && all(found, 32, 0x5a));
+	forge(21, 1);
+	check("bounds: with one more it is refused", refused(look_up(7, 2), SUNDR_MALFORMED, 1));
+	forge(19, 1);
+	check("bounds: with one less both files are found", look_up(19, 2) == accepted(1, 0) && all(found, 32, 2)
+		&& look_up(7, 2) == accepted(1, 0) && all(found, 32, 1));
+	forge(UINT64_MAX, 0);
+	check("bounds: 2^64 - 1 is found in the last leaf", look_up(UINT64_MAX, 2) == accepted(1, 0) && all(found, 32, 2));
+	forge(UINT64_MAX, 1);
+	check("bounds: in another leaf 2^64 - 1 is refused", refused(look_up(7, 2), SUNDR_MALFORMED, 1));
+}
+
 /* The first bytes of a table of 17 files, spelt out; and numbers that do not ascend. */
 static void layout(void)
 {
@@ -250,6 +294,7 @@ int main(void)
 	p12();
 	vectors();
 	layout();
+	bounds();
 	session();
 	return finish();
 }

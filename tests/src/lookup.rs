@@ -5,7 +5,7 @@ use crate::guarded::Guarded;
 use crate::itable::NUMBERINGS;
 use crate::paths::{some_number, Path, Request};
 use crate::random::Random;
-use crate::reference::itable::{lookup, BLOCK, LEAF, MOST_FILES};
+use crate::reference::itable::{lookup, lookup_before, Found, BLOCK, LEAF, MOST_FILES};
 use crate::reference::Refusal;
 use crate::runner::{equal, hex, Outcome, Runner};
 use crate::tables::{refusal_of, wrong_paths, Table, CHANGES};
@@ -13,7 +13,7 @@ use std::collections::BTreeSet;
 
 /// How often each answer was due, by the blocks of the path and the position.
 #[derive(Default)]
-struct Seen {
+pub struct Seen {
     found: [usize; 4],
     found_zero: usize,
     absent: [usize; 4],
@@ -22,10 +22,12 @@ struct Seen {
     /// By number and first position.
     refused: [[usize; 4]; 10],
     too_short: [usize; 4],
+    /// Refused since 02's request c and not before, by first position.
+    pub over_a_bound: [usize; 4],
 }
 
 impl Seen {
-    fn count(&mut self, due: &Due, request: &Request) {
+    fn count(&mut self, due: &Found, before: &Found, request: &Request) {
         let blocks = request.path.len() / BLOCK;
         match due {
             Ok(Some(handle)) => {
@@ -37,6 +39,7 @@ impl Seen {
             Err(Refusal(number, first, _)) => {
                 self.refused[usize::from(*number)][*first as usize] += 1;
                 self.too_short[*first as usize] += usize::from(*number == 9 && *first as usize == blocks);
+                self.over_a_bound[*first as usize] += usize::from(before != due);
             }
         }
     }
@@ -53,6 +56,7 @@ impl Seen {
         for consulted in 1..=2 {
             counts.push(("9, too short", self.too_short[consulted]));
             counts.push(("9, too long", self.refused[9][consulted] - self.too_short[consulted]));
+            counts.push(("3, over a bound", self.over_a_bound[consulted]));
         }
         counts.push(("2", self.refused[2][0]));
         if counts.iter().all(|count| count.1 >= times) {
@@ -63,12 +67,9 @@ impl Seen {
     }
 }
 
-/// A lookup's answer: the file's handle, or none if the table has no such file.
-type Due = Result<Option<[u8; 32]>, Refusal>;
-
-/// One call, judged: the answer, the handle, and every byte that is not to change. Gives the second implementation's
-/// answer.
-fn call(request: &Request, seen: &mut Seen, random: &mut Random) -> Result<Due, String> {
+/// One call, judged: the answer, the handle, and every byte that is not to change; the second implementation's answer,
+/// against the one before 02's request c. Gives the second implementation's answer.
+fn call(request: &Request, seen: &mut Seen, random: &mut Random) -> Result<Found, String> {
     let Request { handle, number, path, out_len } = request;
     let lent_handle = Guarded::new(handle, random);
     let lent_path = Guarded::new(path, random);
@@ -85,11 +86,15 @@ fn call(request: &Request, seen: &mut Seen, random: &mut Random) -> Result<Due, 
         )
     };
     let due = lookup(handle, *number, path, *out_len);
-    seen.count(&due, request);
+    let before = lookup_before(handle, *number, path, *out_len);
+    seen.count(&due, &before, request);
 
     let judged = || {
         lent_handle.unaltered().map_err(|e| format!("handle: {e}"))?;
         lent_path.unaltered().map_err(|e| format!("path: {e}"))?;
+        if !matches!(due, Err(Refusal(3, 1 | 2, 0))) {
+            equal("the answer before 02's request c", before, due)?;
+        }
         let results = due.map(|found| (u32::from(found.is_some()), 0));
         equal("the answer", Answer::from(answer), Answer::from(results))?;
         if let Ok(Some(found)) = due {
@@ -110,7 +115,7 @@ fn judge(request: &Request, seen: &mut Seen, random: &mut Random) -> Outcome {
 }
 
 /// The same where it is known what is due, of both implementations.
-fn judge_as(due: Due, request: &Request, seen: &mut Seen, random: &mut Random) -> Outcome {
+pub fn judge_as(due: Found, request: &Request, seen: &mut Seen, random: &mut Random) -> Outcome {
     equal("the second implementation's answer", call(request, seen, random)?, due)
 }
 

@@ -1,6 +1,7 @@
 //! Differential tests: each call of libsundr.a against a second implementation, written from
 //! the papers alone. A piece has a file here with its checks, and one in `reference/`.
 
+mod bounds;
 mod check;
 mod compare;
 mod desk;
@@ -30,6 +31,7 @@ fn main() -> std::process::ExitCode {
     runs::checks(&mut runner);
     itable::checks(&mut runner);
     lookup::checks(&mut runner);
+    bounds::checks(&mut runner);
     inode::checks(&mut runner);
     runner.finish()
 }

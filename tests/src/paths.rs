@@ -2,7 +2,7 @@
 //! and damaged ones.
 
 use crate::random::Random;
-use crate::reference::itable::{BLOCK, LEAF, SLOTS};
+use crate::reference::itable::{Slot, BLOCK, LEAF, SLOTS};
 use crate::reference::sha256::digest;
 use std::collections::BTreeSet;
 
@@ -20,7 +20,7 @@ pub struct Request {
 pub struct Draft(pub [u8; BLOCK]);
 
 impl Draft {
-    fn new(kind: u8, numbers: &[u64], random: &mut Random) -> Draft {
+    pub fn new(kind: u8, numbers: &BTreeSet<u64>, random: &mut Random) -> Draft {
         let mut block = Draft([0; BLOCK]);
         block.0[0] = kind;
         block.0[1] = numbers.len() as u8;
@@ -40,6 +40,12 @@ impl Draft {
         u64::from_be_bytes(self.0[2 + 40 * slot..][..8].try_into().unwrap())
     }
 
+    /// The used slots.
+    pub fn slots(&self) -> Vec<Slot> {
+        let value = |slot| self.0[10 + 40 * slot..][..32].try_into().unwrap();
+        (0..self.used()).map(|slot| (self.number(slot), value(slot))).collect()
+    }
+
     fn set_number(&mut self, slot: usize, number: u64) {
         self.0[2 + 40 * slot..][..8].copy_from_slice(&number.to_be_bytes());
     }
@@ -51,6 +57,19 @@ impl Draft {
     /// The slot that leads on.
     fn led(&self, number: u64) -> Option<usize> {
         (0..self.used()).rev().find(|&slot| self.number(slot) <= number)
+    }
+
+    /// The number in the next used slot: a bound of all below the one that leads on.
+    fn bound(&self, number: u64) -> Option<u64> {
+        let next = self.led(number)? + 1;
+        (next < self.used()).then(|| self.number(next))
+    }
+
+    /// One slot more with this number, or, where all are used, this number in the last.
+    fn put(&mut self, number: u64) {
+        let slot = self.used().min(SLOTS - 1);
+        self.0[1] = slot as u8 + 1;
+        self.set_number(slot, number);
     }
 
     fn swap(&mut self, a: usize, b: usize) {
@@ -101,8 +120,8 @@ pub fn some_number(random: &mut Random) -> u64 {
     }
 }
 
-/// Up to sixteen numbers, ascending, near this number and others, from `first` on if there is one.
-fn some_numbers(number: u64, first: Option<u64>, random: &mut Random) -> Vec<u64> {
+/// Up to sixteen numbers near this number and others, from `first` on and below `bound` where there is one.
+fn some_numbers(number: u64, first: Option<u64>, bound: Option<u64>, random: &mut Random) -> BTreeSet<u64> {
     let lowest = first.unwrap_or(0);
     let mut numbers: BTreeSet<u64> = first.into_iter().collect();
     for _ in 0..1 + random.below(24) {
@@ -116,11 +135,11 @@ fn some_numbers(number: u64, first: Option<u64>, random: &mut Random) -> Vec<u64
             _ => random.next(),
         });
     }
-    numbers.into_iter().filter(|&n| n >= lowest).take(SLOTS).collect()
+    let within = |&n: &u64| n >= lowest && bound.is_none_or(|bound| n < bound);
+    numbers.into_iter().filter(within).take(SLOTS).collect()
 }
 
-/// The blocks that a number leads along, root first. Nothing but the hashes and first numbers ties
-/// a block to its parent, so that it may hold its neighbours' numbers too.
+/// The blocks that a number leads along, root first.
 #[derive(Clone)]
 pub struct Path {
     pub number: u64,
@@ -139,11 +158,14 @@ impl Path {
         let absent = random.below(3) == 0;
         let mut blocks: Vec<Draft> = Vec::new();
         let mut first = None;
+        let mut bound = None;
         for kind in (LEAF..LEAF + levels as u8).rev() {
-            let mut numbers = some_numbers(number, first, random);
+            let mut numbers = some_numbers(number, first, bound, random);
             numbers.retain(|&n| n != number || !absent);
             let block = Draft::new(kind, &numbers, random);
             first = block.led(number).map(|slot| block.number(slot));
+            // It is below the bound from above, as all numbers of the block are.
+            bound = block.bound(number).or(bound);
             blocks.push(block);
             if first.is_none() {
                 break;
@@ -165,12 +187,23 @@ impl Path {
     /// Faults that will stand under fitting hashes.
     pub fn forge(&mut self, random: &mut Random) {
         let depth = random.below(self.blocks.len());
-        match random.below(20) {
+        match random.below(30) {
             0 if self.blocks.len() == 3 => self.skip_the_middle(),
             1 => self.blocks.iter_mut().for_each(|block| block.0[0] = block.0[0].wrapping_add(1)),
             2 => self.blocks.iter_mut().for_each(|block| block.0[0] = block.0[0].wrapping_sub(1)),
             3 => self.blocks.last_mut().unwrap().0[1..].fill(0),
+            4..=13 if self.blocks.len() > 1 => self.reach_a_bound(random),
             _ => self.blocks[depth].forge(random),
+        }
+    }
+
+    /// A child gets the number in the next slot of a block above, or one beside it.
+    fn reach_a_bound(&mut self, random: &mut Random) {
+        let child = 1 + random.below(self.blocks.len() - 1);
+        let bounds: Vec<u64> = self.blocks[..child].iter().filter_map(|block| block.bound(self.number)).collect();
+        if !bounds.is_empty() {
+            let bound = bounds[random.below(bounds.len())];
+            self.blocks[child].put(bound.wrapping_add(random.next() % 3).wrapping_sub(1));
         }
     }
 

@@ -86,8 +86,20 @@ fn levels(mut below: Vec<Slot>) -> Vec<u8> {
     written
 }
 
-/// The file's handle, or none if the table has no such file.
-pub fn lookup(handle: &[u8], number: u64, path: &[u8], out_len: usize) -> Result<Option<[u8; 32]>, Refusal> {
+/// A lookup's answer: the file's handle, or none if the table has no such file.
+pub type Found = Result<Option<[u8; 32]>, Refusal>;
+
+/// The lookup of 01 with 02's request c.
+pub fn lookup(handle: &[u8], number: u64, path: &[u8], out_len: usize) -> Found {
+    walk(handle, number, path, out_len, true)
+}
+
+/// The lookup of 01 alone: but for its first number, nothing ties a child's numbers to its parent.
+pub fn lookup_before(handle: &[u8], number: u64, path: &[u8], out_len: usize) -> Found {
+    walk(handle, number, path, out_len, false)
+}
+
+fn walk(handle: &[u8], number: u64, path: &[u8], out_len: usize, bounded: bool) -> Found {
     let blocks: Vec<&[u8]> = path.chunks(BLOCK).collect();
     if handle.len() != 32 || out_len != 32 || path.len() % BLOCK != 0 || !(1..=3).contains(&blocks.len()) {
         return Err(Refusal(2, 0, 0));
@@ -95,6 +107,8 @@ pub fn lookup(handle: &[u8], number: u64, path: &[u8], out_len: usize) -> Result
     let mut hash: [u8; 32] = handle.try_into().unwrap();
     // The kind due, and the number in the slot that led here, below the root.
     let mut parent: Option<(u8, u64)> = None;
+    // 02, request c: the number in the next used slot, of each block on the way here that has one.
+    let mut bounds: Vec<u64> = Vec::new();
     for depth in 0.. {
         let at = depth as u32;
         let Some(bytes) = blocks.get(depth) else {
@@ -103,19 +117,30 @@ pub fn lookup(handle: &[u8], number: u64, path: &[u8], out_len: usize) -> Result
         if digest(bytes) != hash {
             return Err(Refusal(8, at, 0));
         }
-        let block = Block::read(bytes).filter(|block| stands(block, parent)).ok_or(Refusal(3, at, 0))?;
-        let led = block.slots.iter().rev().find(|slot| slot.0 <= number);
+        let block = Block::read(bytes)
+            .filter(|block| stands(block, parent) && within(block, &bounds))
+            .ok_or(Refusal(3, at, 0))?;
+        let led = block.slots.iter().rposition(|slot| slot.0 <= number);
         match led {
             Some(slot) if block.kind != LEAF => {
-                hash = slot.1;
-                parent = Some((block.kind - 1, slot.0));
+                hash = block.slots[slot].1;
+                parent = Some((block.kind - 1, block.slots[slot].0));
+                if bounded {
+                    bounds.extend(block.slots.get(slot + 1).map(|next| next.0));
+                }
             }
             _ if blocks.len() > depth + 1 => return Err(Refusal(9, at + 1, 0)),
-            Some(slot) if slot.0 == number => return Ok(Some(slot.1)),
+            Some(slot) if block.slots[slot].0 == number => return Ok(Some(block.slots[slot].1)),
             _ => return Ok(None),
         }
     }
     unreachable!("a path of over three blocks")
+}
+
+/// 02, request c: "every number in a child must also be below the number in the next used slot, and
+/// below any such bound handed down from above."
+fn within(block: &Block, bounds: &[u64]) -> bool {
+    block.slots.iter().all(|slot| bounds.iter().all(|&bound| slot.0 < bound))
 }
 
 /// Whether the block may stand at the root, or where the parent's slot leads.
