@@ -318,13 +318,6 @@ static void from_list_to_text(struct client *desk, struct sundr_server *server)
 	fetch(desk, server, "channels 1 to 13", LINK_BY_LINK);
 }
 
-/* What of a reply was refused, and for what. */
-static void tell_position(const char *what, uint64_t answer)
-{
-	tell("  %-7s%d at %u   %s", what, sundr_refusal(answer), sundr_first(answer),
-		sundr_refusal_text(sundr_refusal(answer)));
-}
-
 /* A fetch that gets this reply, and has to refuse it at this position. */
 static void try_reply(struct client *desk, struct sundr_server *server, const char *what,
 	const struct reply *reply, uint32_t position)
@@ -334,7 +327,8 @@ static void try_reply(struct client *desk, struct sundr_server *server, const ch
 	uint64_t answer = judge(sundr_i_handle(maintainers_record(&accepted)), reply, file_handle);
 
 	must_refuse(answer, SUNDR_WRONG_HASH, position, 0);
-	tell_position(what, answer);
+	tell("  %-7s%d at %u   %s", what, sundr_refusal(answer), sundr_first(answer),
+		sundr_refusal_text(sundr_refusal(answer)));
 }
 
 static void swapped_pieces(struct client *desk, struct sundr_server *server, const struct sundr_server *old_disk)
@@ -363,29 +357,40 @@ static void swapped_pieces(struct client *desk, struct sundr_server *server, con
 	try_reply(desk, server, "block", &lie, 1);
 }
 
-/*
- * A table that another tool made: the leaf of this file has its neighbour's first number in its last slot, and every
- * hash is right. The file is in leaf 12 of its block of kind 4, which is the root's first.
- */
-static void the_neighbours_file(const struct sundr_server *server)
+static uint8_t *slot(uint8_t *block, size_t i)
 {
+	return block + 2 + (8 + SUNDR_SHA256_LEN) * i;
+}
+
+/*
+ * A table that another tool made: the leaf of the channel table has another file's number in its last slot, which leads
+ * to the last leaf. Every hash is right. The leaf is below slot 12 of a block that is below the root's first slot.
+ */
+static void a_file_that_is_denied(const struct sundr_server *server)
+{
+	enum { STRAY = 5000, LEAF_SLOT = 12 };
 	struct reply reply = ask_server(sundr_i_handle(server->records), CHANNEL_TABLE);
-	uint8_t *middle = reply.path + SUNDR_TABLE_BLOCK_LEN, *leaf = middle + SUNDR_TABLE_BLOCK_LEN;
-	const size_t slots = 2, slot_len = 8 + SUNDR_SHA256_LEN;
+	uint8_t *root = reply.path, *middle = root + SUNDR_TABLE_BLOCK_LEN, *leaf = middle + SUNDR_TABLE_BLOCK_LEN;
 	uint8_t i_handle[SUNDR_HANDLE_LEN], file_handle[SUNDR_HANDLE_LEN];
 	uint64_t answer;
 
-	tell("\n7. A file of the neighbour's\n");
-	tell("A table that another tool made: the leaf of file %d also holds the first file of the next leaf.", CHANNEL_TABLE);
-	tell("Who walks over the leaves sees that file there, and its number leads elsewhere. Every hash is");
-	tell("right, and the leaf is refused.");
-	memcpy(leaf + slots + 15 * slot_len, middle + slots + 13 * slot_len, 8);
-	must_accept(sundr_sha256(leaf, SUNDR_TABLE_BLOCK_LEN, middle + slots + 12 * slot_len + 8, SUNDR_SHA256_LEN), "a hash");
-	must_accept(sundr_sha256(middle, SUNDR_TABLE_BLOCK_LEN, reply.path + slots + 8, SUNDR_SHA256_LEN), "a hash");
-	must_accept(sundr_sha256(reply.path, SUNDR_TABLE_BLOCK_LEN, i_handle, sizeof i_handle), "a hash");
+	tell("\n7. A file that is shown and denied\n");
+	tell("A table that another tool made: the leaf of file %d has file %d in its last slot, whose number leads", CHANNEL_TABLE, STRAY);
+	tell("to the last leaf. Who walks over all leaves sees it, and the lookup denies it. Every hash is right.");
+	slot(leaf, 15)[6] = STRAY >> 8;
+	slot(leaf, 15)[7] = STRAY & 0xff;
+	upload_block(leaf, SUNDR_TABLE_BLOCK_LEN, slot(middle, LEAF_SLOT) + 8);
+	upload_block(middle, SUNDR_TABLE_BLOCK_LEN, slot(root, 0) + 8);
+	upload_block(root, SUNDR_TABLE_BLOCK_LEN, i_handle);
+	reply = ask_server(i_handle, STRAY);
+	answer = sundr_lookup(i_handle, sizeof i_handle, STRAY, reply.path, reply.path_len, file_handle, sizeof file_handle);
+	must(answer == 0, "no such file");
+	tell("  file %d   no such file, by the last leaf", STRAY);
+	reply = ask_server(i_handle, CHANNEL_TABLE);
 	answer = judge(i_handle, &reply, file_handle);
 	must_refuse(answer, SUNDR_MALFORMED, 2, 0);
-	tell_position("leaf", answer);
+	tell("  file %d   %d at %u   %s", CHANNEL_TABLE, sundr_refusal(answer), sundr_first(answer),
+		sundr_refusal_text(sundr_refusal(answer)));
 }
 
 int main(int argc, char **argv)
@@ -406,7 +411,7 @@ int main(int argc, char **argv)
 	honest_turns(&maintainer, &desk, &server);
 	from_list_to_text(&desk, &server);
 	swapped_pieces(&desk, &server, &old_disk);
-	the_neighbours_file(&server);
+	a_file_that_is_denied(&server);
 	tell("\nAll came out as told, in the library and, where a bar stands, in the desk program too.");
 	return 0;
 }

@@ -31,7 +31,7 @@
  *
  *     sundr_sha256             560        sundr_server_commit      612
  *     sundr_compare              8        sundr_table_write      1,328
- *     sundr_check            2,244        sundr_lookup             896
+ *     sundr_check            2,244        sundr_lookup             944
  *     sundr_server_make_at      24        sundr_block_check        672
  *     sundr_server_list_at   1,800
  */
@@ -48,7 +48,7 @@ extern "C" {
 /* The version of the library that this header belongs to. */
 #define SUNDR_VERSION "0.6.0"
 #define SUNDR_VERSION_MAJOR 0
-#define SUNDR_VERSION_MINOR 5
+#define SUNDR_VERSION_MINOR 6
 #define SUNDR_VERSION_PATCH 0
 
 /* The numbers in bits 0 to 7 of an answer. */
@@ -370,10 +370,10 @@ uint64_t sundr_table_write(const uint64_t *numbers, size_t count,
  * Reads the i-handle, the file's i-number, and the path: one to three blocks end to end, the root
  * first, each next one the child that the i-number leads to. Accepted: the first result is 1, and
  * the file's handle is in out[0..32); or it is 0, the path shows no such file, and out is as it
- * was. The second result is 0. A path that is accepted gives every file that its leaf holds. In a
- * table that sundr_table_write() made, a path that shows no such file says that there is none; in one
- * made otherwise, a leaf to which the file's number does not lead may hold it, and then no path to
- * that leaf is accepted.
+ * was. The second result is 0. Whatever i-number the leaf of an accepted path holds, the same path
+ * gives its handle. In a table that sundr_table_write() made, a path that shows no such file says that
+ * there is none; in one made otherwise, a leaf to which the file's number does not lead may hold it,
+ * and then no path to that leaf is accepted.
  *
  * Refused, with out as it was; SUNDR_LENGTH is tried first, then each block in its turn, its hash
  * before anything else in it, as far as the i-number leads:
@@ -382,7 +382,8 @@ uint64_t sundr_table_write(const uint64_t *numbers, size_t count,
  *                       parent gives.
  *   SUNDR_MALFORMED     first: the block that is not well formed, is not of the kind due there,
  *                       does not start with the i-number that its parent gives, or has one that is
- *                       not below that of the next used slot, in its parent or further up.
+ *                       not below those of the used slots after the ones that led there, in its
+ *                       parent and further up.
  *   SUNDR_PATH_LENGTH   first: the number of blocks that were read, one more being needed, or
  *                       others being left over.
  */

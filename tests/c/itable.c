@@ -227,18 +227,23 @@ static void add_slot(uint8_t *block, uint64_t number, const uint8_t value[32])
 	memcpy(slot + 8, value, 32);
 }
 
-/* A path under fitting hashes to a leaf of the file 7 and another; a neighbour, if there is one, begins with 20. */
+static uint8_t neighbour[SUNDR_TABLE_BLOCK_LEN];
+
+/* A path under fitting hashes to a leaf of the file 7 and another; a neighbour, if there is one, holds 20 alone. */
 static void forge(uint64_t other, int has_neighbour)
 {
 	uint8_t *leaf = path + SUNDR_TABLE_BLOCK_LEN, hash[32];
 
 	memset(path, 0, sizeof path);
-	leaf[0] = 3;
+	memset(neighbour, 0, sizeof neighbour);
+	path[0] = 4;
+	leaf[0] = neighbour[0] = 3;
 	add_slot(leaf, 7, handles + 32 * 1);
 	add_slot(leaf, other, handles + 32 * 2);
 	sundr_sha256(leaf, SUNDR_TABLE_BLOCK_LEN, hash, sizeof hash);
-	path[0] = 4;
 	add_slot(path, 7, hash);
+	add_slot(neighbour, 20, handles + 32 * 3);
+	sundr_sha256(neighbour, SUNDR_TABLE_BLOCK_LEN, hash, sizeof hash);
 	if (has_neighbour)
 		add_slot(path, 20, hash);
 	sundr_sha256(path, SUNDR_TABLE_BLOCK_LEN, root, sizeof root);
@@ -255,6 +260,12 @@ static void bounds(void)
 	forge(19, 1);
 	check("bounds: with one less both files are found", look_up(19, 2) == accepted(1, 0) && all(found, 32, 2)
 		&& look_up(7, 2) == accepted(1, 0) && all(found, 32, 1));
+	forge(25, 1);
+	check("bounds: a leaf with a file that its neighbour denies is refused", refused(look_up(7, 2), SUNDR_MALFORMED, 1)
+		&& refused(look_up(25, 2), SUNDR_WRONG_HASH, 1));
+	memcpy(path + SUNDR_TABLE_BLOCK_LEN, neighbour, sizeof neighbour);
+	check("bounds: and the neighbour denies it", look_up(25, 2) == accepted(0, 0) && all(found, 32, 0x5a)
+		&& look_up(20, 2) == accepted(1, 0) && all(found, 32, 3));
 	forge(UINT64_MAX, 0);
 	check("bounds: 2^64 - 1 is found in the last leaf", look_up(UINT64_MAX, 2) == accepted(1, 0) && all(found, 32, 2));
 	forge(UINT64_MAX, 1);

@@ -4,15 +4,16 @@ use Prim.Native.Nat.{ℕ, suc, _+_, _-_, _*_, _≤_, _<_}
 use mathlib.Core.Bool.{Bool, true, false}
 use mathlib.Core.List.{List}
 use mathlib.Core.Path.{_≡_, sym, ap, _∙_}
+use native.Mathlib.Numerals.{add-one}
 use native.Mathlib.Omega.{arith}
 use lib.Dec.{leb, ltb, eqb}
 use borrow.Author.Tests.{eq-eqb, ne-eqb, le-leb, lt-leb, le-ltb, lt-ltb}
 use Rattle.layout.specs.Strings.{zeros}
 use Rattle.itable.specs.declared.Link.{Link}
 use Rattle.itable.specs.Lookup.{lastAtMost}
-use Rattle.itable.proofs.BlockBound.{last-tells}
+use Rattle.itable.proofs.BlockBound.{next-bounds, last-hands-down, last-tells}
 use Rattle.search.proofs.Search.{every-intro}
-use Rattle.itable.specs.Block.{kind, used, number, kindDue, usedDue, ascending, unusedZero, firstDue, belowBound, boundBelow, wellFormed}
+use Rattle.itable.specs.Block.{kind, used, number, kindDue, usedDue, ascending, unusedZero, firstDue, belowBound, childBound, wellFormed}
 
 module _ (due : ℕ) (b : List ℕ) (k : ℕ) (ek : k ≡ kind b) where
   pub below-root : (due ≡ 0 → ⊥) → eqb k due ≡ kindDue due b
@@ -55,13 +56,11 @@ module _ (due first : ℕ) (b : List ℕ) where
 
 -- The bound below slot j: that of the block is handed down, or the next slot has it.
 module _ (bound : ℕ) (b : List ℕ) (j u : ℕ) (eu : u ≡ used b) where
-  pub handed-down : u ≤ j + 1 → bound ≡ boundBelow bound b j
-  unfolding boundBelow
-  handed-down l = rw (sym eu, le-ltb (j + 1) u l)
+  pub handed-down : u ≤ j + 1 → bound ≡ childBound bound b j
+  handed-down l = sym (last-hands-down bound b j (omega arith))
 
-  pub next-number : j + 1 < u → (n : ℕ) → n ≡ number b (j + 1) → n ≡ boundBelow bound b j
-  unfolding boundBelow
-  next-number l n e = rw (sym eu, lt-ltb (j + 1) u l) e
+  pub next-number : j + 1 < u → (n : ℕ) → n ≡ number b (j + 1) → n ≡ childBound bound b j
+  next-number l n e = e ∙ (ap (number b) (add-one j) ∙ sym (next-bounds bound b j (omega arith)))
 
 -- The numbers and their bound: there is none, no number is there, or the last of those that ascend tells.
 module _ (bound : ℕ) (b : List ℕ) where

@@ -8,7 +8,7 @@ ghost use mathlib.Core.Bool.{true};
 ghost use Prim.Native.Nat.{_-_};
 ghost use lib.Dec.{eqb};
 ghost use Rattle.search.specs.Search.{find};
-ghost use Rattle.itable.specs.Block.{kind as kindOf, used as usedOf, number as numberOf, value as valueOf, boundBelow, toChild};
+ghost use Rattle.itable.specs.Block.{kind as kindOf, used as usedOf, number as numberOf, value as valueOf, childBound, toChild};
 ghost use Rattle.itable.specs.Block.{kindDue, usedDue, ascending as ascendingOf, firstDue, belowBound, wellFormed};
 ghost use Rattle.itable.specs.Lookup.{lastAtMost};
 use itable::Link;
@@ -74,9 +74,9 @@ fn kind_below(kind: u8) -> u8
 }
 
 // The bound below slot j of a block that has this bound: the number in the next slot if that is used,
-// otherwise the block's own bound, which is handed down.
-fn bound_below(bound: u64, b: &[u8], j: u8) -> u64
-    ensures { λ r. ⌜ r ≡ boundBelow bound (now (b .entry)) j ⌝ }
+// otherwise the block's own bound, which is handed down. The next of slot 255 is no `u8`.
+fn child_bound(bound: u64, b: &[u8], j: u8) -> u64
+    ensures { λ r. ⌜ r ≡ childBound bound (now (b .entry)) j ⌝ }
 {
     if used(b) as usize <= (j as usize) + 1 {
         return bound;
@@ -91,7 +91,7 @@ pub fn child(link: Link, b: &[u8], j: u8) -> Link
     Link {
         due: kind_below(kind(b)),
         first: number(b, j),
-        bound: bound_below(link.bound, b, j),
+        bound: child_bound(link.bound, b, j),
         hash: value(b, j),
     }
 }
@@ -155,8 +155,8 @@ fn first_due(due: u8, first: u64, b: &[u8]) -> bool
     number(b, 0) == first
 }
 
-// Whether the numbers in the used slots are below the bound; none is where it is 0. They ascend, so the
-// last of them tells.
+// Whether the numbers in the used slots are below the bound; 0 stands for none. They ascend, so the last
+// of them tells.
 fn below_bound(bound: u64, b: &[u8]) -> bool
     requires { ⌜ ascendingOf (now b) ≡ true ⌝ }
     ensures { λ r. ⌜ r ≡ belowBound bound (now (b .entry)) ⌝ }

@@ -22,6 +22,7 @@ use Rattle.itable.proofs.LeafGives.{leaf-gives}
 use Rattle.itable.proofs.WrittenLeafGives.{written-leaf-gives}
 use Rattle.itable.proofs.Bounds.{bounds-kept, bound-refused, nearest-least, bound-positive}
 use Rattle.itable.proofs.NeighbourRefused.{neighbour-refused}
+use Rattle.itable.proofs.DiffersByThree.{differs-by-three}
 use Rattle.itable.proofs.BlockCheckMeans.{block-check-means}
 use Rattle.itable.proofs.EntryMeans.{entry-means}
 use Rattle.itable.proofs.WrittenAnswers.{written-answers}
@@ -67,6 +68,7 @@ claims =
       bounds-kept = bounds-kept;
       bound-refused = bound-refused;
       neighbour-refused = neighbour-refused;
+      differs-by-three = differs-by-three;
       nearest-least = nearest-least;
       bound-positive = bound-positive;
       entry-means = entry-means;

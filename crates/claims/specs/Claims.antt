@@ -18,7 +18,9 @@ use Rattle.protocol.specs.Commits.{CommitsCounted}
 use Rattle.protocol.specs.Listings.{ListingsAscend}
 use Rattle.itable.specs.LookupMeaning.{LookupMeans, NoneOnlyAtRoot}
 use Rattle.itable.specs.LeafGives.{LeafGives, WrittenLeafGives}
-use Rattle.itable.specs.Bounds.{BoundPositive, NearestLeast, BoundsKept, BoundRefused, NeighbourRefused}
+use Rattle.itable.specs.Bounds.{BoundPositive, NearestLeast, BoundsKept, BoundRefused}
+use Rattle.itable.specs.Neighbour.{NeighbourRefused}
+use Rattle.itable.specs.Before.{DiffersByThree}
 use Rattle.itable.specs.InodeMeaning.{BlockCheckMeans}
 use Rattle.itable.specs.Answers.{EntryMeans, AtMostBlocks, WrittenAnswers, OtherwiseCollides, BufferAnswersAsTable}
 use Rattle.input.specs.UsersRefused.{UsersRefused}
@@ -82,11 +84,13 @@ pub record Claims : Type 1 where
   pub written-leaf-gives : WrittenLeafGives
   -- In an accepted lookup each number of a block is below every bound on the way there: the number in the next used slot of each block above.
   pub bounds-kept : BoundsKept
-  -- A block on the way that has another number is refused with 3, at its own index.
+  -- A block with a number that is not below them all is refused with 3, at its own index.
   pub bound-refused : BoundRefused
-  -- There is such a block: a leaf that holds its neighbour's number.
+  -- There is such a block: a leaf that holds a file which the lookup denies.
   pub neighbour-refused : NeighbourRefused
-  -- One bound is carried: what is below the nearest is below every bound on the way.
+  -- An answer is what the lookup gave before there were bounds, or it is now 3 at a child; so what is accepted was accepted.
+  pub differs-by-three : DiffersByThree
+  -- One bound is carried, the nearest: what is below it is below every bound on the way.
   pub nearest-least : NearestLeast
   -- No bound is 0, which stands where there is none.
   pub bound-positive : BoundPositive

@@ -12,18 +12,18 @@ use borrow.Author.Tests.{ltb-true, lt-ltb, le-ltb}
 use Rattle.search.specs.Search.{every}
 use Rattle.search.proofs.Bool.{bool-cases}
 use Rattle.search.proofs.Search.{every-intro, every-fails}
-use Rattle.itable.specs.Block.{used, number, value, ascending, boundBelow}
+use Rattle.itable.specs.Block.{used, number, value, ascending, childBound}
 use Rattle.itable.specs.Table.{Level}
 use Rattle.itable.proofs.BlockMeaning.{ascending-means}
 use Rattle.itable.proofs.Place.{ascends-lt}
 
 module _ (bound : ℕ) (b : List ℕ) (j : ℕ) where
-  pub next-bounds : suc j < used b → boundBelow bound b j ≡ number b (suc j)
-  unfolding boundBelow
+  pub next-bounds : suc j < used b → childBound bound b j ≡ number b (suc j)
+  unfolding childBound
   next-bounds h = rw (add-one j, lt-ltb (suc j) (used b) h)
 
-  pub last-hands-down : used b ≤ suc j → boundBelow bound b j ≡ bound
-  unfolding boundBelow
+  pub last-hands-down : used b ≤ suc j → childBound bound b j ≡ bound
+  unfolding childBound
   last-hands-down h = rw (add-one j, le-ltb (suc j) (used b) h)
 
 -- The used slots as a level.

@@ -5,7 +5,7 @@ use mathlib.Core.Logic.{inl, inr, ⊎-elim}
 use mathlib.Core.Path.{_≡_, ap, _∙_}
 use native.Mathlib.Decide.{decLe}
 use native.Mathlib.Omega.{arith}
-use Rattle.itable.specs.Block.{kind, used, number, boundBelow}
+use Rattle.itable.specs.Block.{kind, used, number, childBound}
 use Rattle.itable.specs.declared.Link.{Link}
 use Rattle.itable.specs.Table.{Level, usedIn, block, above}
 use Rattle.itable.specs.Lookup.{absent, lastAtMost, known, answerAt, consult}
@@ -38,7 +38,7 @@ module _ (κ : ℕ) (L : Level) (i p : ℕ) (q : Place L i p) (pos : 0 < L .coun
 
   -- The number in the parent's next slot is the first one of the next block; the last slot hands the parent's bound down, which is that too.
   pub child-bounded :
-      (bound : ℕ) → 0 < p → Bounded (above κ L) (cover ((p + 15) / 16)) bound → Bounded L (cover p) (boundBelow bound parent slot)
+      (bound : ℕ) → 0 < p → Bounded (above κ L) (cover ((p + 15) / 16)) bound → Bounded L (cover p) (childBound bound parent slot)
   unfolding above
   child-bounded bound l w =
       let up : ℕ = cover ((p + 15) / 16) in
@@ -47,9 +47,10 @@ module _ (κ : ℕ) (L : Level) (i p : ℕ) (q : Place L i p) (pos : 0 < L .coun
       let u : used parent ≡ usedIn (above κ L .count) up = used-block (suc κ) (above κ L) up in
       elim (decLe (used parent) (suc slot)) [
         | yes m ↦
-            rw (last-hands-down bound parent slot m)
-            (⊎-elim (λ z. inl z)
-            (λ v. let g : 16 * suc up ≡ suc (cover p) = omega (arith, u, v .0) in inr (omega (arith, v .0), v .1 ∙ ap (λ x. L .number (16 * x)) g)) w)
+            let handed : Bounded L (cover p) bound =
+            ⊎-elim (λ z. inl z)
+            (λ v. let g : 16 * suc up ≡ suc (cover p) = omega (arith, u, v .0) in inr (omega (arith, v .0), v .1 ∙ ap (λ x. L .number (16 * x)) g)) w in
+            rw (last-hands-down bound parent slot m) handed
         | no m ↦
             let n : suc slot < usedIn (above κ L .count) up = omega arith in
             let g : 16 * up + suc slot ≡ suc (cover p) = omega arith in
@@ -67,7 +68,7 @@ module _ (κ : ℕ) (L : Level) (i p : ℕ) (q : Place L i p) (pos : 0 < L .coun
     pub child-leads :
         0 < p →
         answerAt parent i left (suc d) (along path i left d k parent) ≡
-        consult path i left (suc d) (toBlock κ L (boundBelow (k .bound) parent slot) (cover p))
+        consult path i left (suc d) (toBlock κ L (childBound (k .bound) parent slot) (cover p))
     unfolding above
     child-leads l =
         let f : 0 < (p + 15) / 16 = omega arith in

@@ -21,3 +21,4 @@ pub mod LeafGives
 pub mod WrittenLeafGives
 pub mod Bounds
 pub mod NeighbourRefused
+pub mod DiffersByThree

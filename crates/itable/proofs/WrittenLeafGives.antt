@@ -38,5 +38,5 @@ written-leaf-gives T t f l =
       indices = a .indices;
       are-written = a .are-written;
       holds = held path i (T .value f) 0 (toRoot root) (entryOf T i) q (s .1);
-      leaves-give = leaf-gives root i path (entryOf T i) (a .answers);
+      gives-held = leaf-gives root i path (entryOf T i) (a .answers);
     }

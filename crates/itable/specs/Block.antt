@@ -33,11 +33,11 @@ value b j = bytesAt b (10 + 40 * j) 32
 abbrev pub toRoot : List ℕ → Link
 toRoot handle = record { due = 0; first = 0; bound = 0; hash = handle }
 
-unfoldable pub boundBelow : ℕ → List ℕ → ℕ → ℕ
-boundBelow bound b j = cond (ltb (j + 1) (used b)) (number b (j + 1)) bound
+unfoldable pub childBound : ℕ → List ℕ → ℕ → ℕ
+childBound bound b j = cond (ltb (j + 1) (used b)) (number b (j + 1)) bound
 
 abbrev pub toChild : Link → List ℕ → ℕ → Link
-toChild k b j = record { due = kind b - 1; first = number b j; bound = boundBelow (k .bound) b j; hash = value b j }
+toChild k b j = record { due = kind b - 1; first = number b j; bound = childBound (k .bound) b j; hash = value b j }
 
 -- "The root's kind may be 3, 4 or 5, each next one is one less."
 unfoldable pub kindDue : ℕ → List ℕ → Bool

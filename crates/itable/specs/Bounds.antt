@@ -1,16 +1,14 @@
 -- The bounds on the way to a block: "every number in a child must also be below the number in the next used slot, and below any such bound handed
 -- down from above". The definitions carry one bound, the nearest; here are all of them.
 use Prim.Native.Nat.{ℕ, suc, _≤_, _<_}
-use mathlib.Core.List.{List, [], _∷_, _++_}
+use mathlib.Core.List.{List, [], _∷_}
 use mathlib.Core.Logic.{_↔_}
 use mathlib.Core.Path.{_≡_}
-use lib.ListN.{replicate}
 use Rattle.layout.specs.Bytes.{part, parts}
 use Rattle.refusal.specs.Answer.{accepted, refused}
 use Rattle.sha256.specs.Sha256.{sha256}
 use Rattle.itable.specs.Block.{size, used, number, toRoot, toChild}
 use Rattle.itable.specs.declared.Link.{Link}
-use Rattle.itable.specs.Table.{files, block}
 use Rattle.itable.specs.Lookup.{Entry, lookup}
 use Rattle.itable.specs.LookupMeaning.{Sizes, Passes, Leads}
 
@@ -37,11 +35,15 @@ BoundPositive =
     (handle : List ℕ) (i : ℕ) (path : List ℕ) (d : ℕ) (k : Link) (bounds : List ℕ) → Way handle i path d k bounds →
     BelowAll 0 bounds × ((k .bound ≡ 0) ↔ (bounds ≡ []))
 
--- The nearest bound, which is the one that is carried, is the least: what is below it is below every bound on the way.
+-- The nearest bound is the one that is carried, and it is the least: what is below it is below every bound on the way.
+abbrev pub nearest : List ℕ → ℕ
+nearest [] = 0
+nearest (x ∷ xs) = x
+
 abbrev pub NearestLeast : Type 0
 NearestLeast =
     (handle : List ℕ) (i : ℕ) (path : List ℕ) (d : ℕ) (k : Link) (bounds : List ℕ) → Way handle i path d k bounds →
-    (n : ℕ) → ((k .bound ≡ 0 → ⊥) → n < k .bound) ↔ BelowAll n bounds
+    (k .bound ≡ nearest bounds) × ((n : ℕ) → ((k .bound ≡ 0 → ⊥) → n < k .bound) ↔ BelowAll n bounds)
 
 -- In an accepted lookup every number of each block is below every bound on the way there.
 pub record Kept (handle : List ℕ) (i : ℕ) (path : List ℕ) (d : ℕ) : Type 0 where
@@ -63,14 +65,3 @@ BoundRefused =
     Way handle i path d k bounds → d < parts size path → sha256 (part size path d) ≡ k .hash →
     (j : ℕ) → j < used (part size path d) → (BelowAll (number (part size path d) j) bounds → ⊥) →
     lookup handle i path ≡ refused 3 d 0
-
--- The request's case, made small: below slot 0 a leaf holds files 0 and 1, and the number in the next slot is 1. All hashes are right, and along
--- this path a lookup of 1 would not come to the leaf.
-abbrev pub leaf : List ℕ
-leaf = block 3 (files (0 ∷ 1 ∷ []) (replicate 64 0)) 0
-
-abbrev pub root : List ℕ
-root = block 4 (record { count = 2; number = λ j. j; value = λ j. sha256 leaf }) 0
-
-abbrev pub NeighbourRefused : Type 0
-NeighbourRefused = lookup (sha256 root) 0 (root ++ leaf) ≡ refused 3 1 0

@@ -10,13 +10,13 @@ use Rattle.itable.specs.Lookup.{Entry, found, lookup}
 use Rattle.itable.specs.Answers.{IsTable, AllBelow, pathOf}
 
 -- The path gives the handle of every number that a leaf of it holds. (An accepted lookup leaves no block of its path over, so each is consulted.)
-abbrev pub LeavesGive : List ℕ → List ℕ → Type 0
-LeavesGive handle path =
+abbrev pub GivesHeld : List ℕ → List ℕ → Type 0
+GivesHeld handle path =
     (d j : ℕ) → d < parts size path → kind (part size path d) ≡ 3 → j < used (part size path d) →
     lookup handle (number (part size path d) j) path ≡ accepted (found (value (part size path d) j))
 
 abbrev pub LeafGives : Type 0
-LeafGives = (handle : List ℕ) (i : ℕ) (path : List ℕ) (e : Entry) → lookup handle i path ≡ accepted e → LeavesGive handle path
+LeafGives = (handle : List ℕ) (i : ℕ) (path : List ℕ) (e : Entry) → lookup handle i path ≡ accepted e → GivesHeld handle path
 
 -- A leaf of the path holds i with this handle, in slot j of block d.
 pub record Holds (path : List ℕ) (i : ℕ) (handle : List ℕ) : Type 0 where
@@ -33,7 +33,7 @@ pub record FileGiven (T : Level) (f : ℕ) : Type 0 where
   pub indices : List ℕ
   pub are-written : AllBelow (blocks (T .count)) indices
   pub holds : Holds (pathOf (written T) indices) (T .number f) (T .value f)
-  pub leaves-give : LeavesGive (rootHash (written T) (blocks (T .count))) (pathOf (written T) indices)
+  pub gives-held : GivesHeld (rootHash (written T) (blocks (T .count))) (pathOf (written T) indices)
 
 abbrev pub WrittenLeafGives : Type 0
 WrittenLeafGives = (T : Level) → IsTable T → (f : ℕ) → f < T .count → FileGiven T f

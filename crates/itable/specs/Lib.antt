@@ -9,3 +9,5 @@ pub mod InodeMeaning
 pub mod Answers
 pub mod LeafGives
 pub mod Bounds
+pub mod Neighbour
+pub mod Before

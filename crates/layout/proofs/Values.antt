@@ -38,30 +38,30 @@ values-part b a n h =
     let z : 0 + i ≡ i = omega arith in
     getD-values _ 0 n i k ∙ (ap (λ j. getD b (a + j) 0) z ∙ (sym (getD-drop a b i 0) ∙ sym (getD-take n (drop a b) i 0 k))))
 
--- The m of them that are there, copied over n zeros.
+-- A byte after m others that were copied over n zeros.
+zero-after : (s : List ℕ) (m n i : ℕ) → length s ≡ m → m ≤ i → i < n → getD (s ++ drop m (replicate n 0)) i 0 ≡ 0
+zero-after s m n i l lo hi =
+    let zeros : List ℕ = replicate n 0 in
+    let p : i ≡ length s + (i - m) = omega arith in
+    let q : m + (i - m) ≡ i = omega arith in
+    ap (λ x. getD (s ++ drop m zeros) x 0) p ∙
+    rw (getD-append-add s (drop m zeros) (i - m) 0, getD-drop m zeros (i - m) 0, q) (getD-replicate n i 0 0 hi)
+
+-- The m bytes that are there, copied over n zeros.
 pub rest-copied :
     (b s : List ℕ) (a m n : ℕ) → m ≤ n → m ≤ length b - a → ((i : ℕ) → m ≤ i → i < n → length b ≤ a + i) → s ≡ take m (drop a b) →
     take (length s) s ++ drop (length s) (replicate n 0) ≡ bytesAt b a n
 rest-copied b s a m n few h past e =
     let l : length s ≡ m = rw e (length-take-le m (drop a b) (simp length-drop (omega arith))) in
-    let zeros : List ℕ = drop m (replicate n 0) in
-    let r : length (s ++ zeros) ≡ n = simp (length-append, length-drop, length-replicate) (omega arith) in
+    let r : length (s ++ drop m (replicate {A = ℕ} n 0)) ≡ n = simp (length-append, length-drop, length-replicate) (omega arith) in
     rw (take-length, l)
-    (ext-getD 0 (s ++ zeros) _ (r ∙ sym (length-values _ 0 n))
+    (ext-getD 0 _ _ (r ∙ sym (length-values _ 0 n))
     (λ i k.
-    let v : getD (bytesAt b a n) i 0 ≡ getD b (a + i) 0 =
-    getD-values _ 0 n i (omega arith) ∙ (let z : 0 + i ≡ i = omega arith in ap (λ j. getD b (a + j) 0) z) in
+    let z : 0 + i ≡ i = omega arith in
+    let v : getD (bytesAt b a n) i 0 ≡ getD b (a + i) 0 = getD-values _ 0 n i (omega arith) ∙ ap (λ j. getD b (a + j) 0) z in
     elim (decLe m i) [
-      | yes f ↦
-          let p : i ≡ length s + (i - m) = omega arith in
-          let q : m + (i - m) ≡ i = omega arith in
-          ap (λ x. getD (s ++ zeros) x 0) p ∙
-          (getD-append-add s zeros (i - m) 0 ∙
-          (getD-drop m (replicate n 0) (i - m) 0 ∙
-          (rw q (getD-replicate {A = ℕ} n i 0 0 (omega arith)) ∙ sym (v ∙ List·getD-eq-default b 0 (past i f (omega arith))))))
-      | no f ↦
-          List·getD-append s zeros 0 i (omega arith) ∙
-          (ap (λ x. getD x i 0) e ∙ (getD-take m (drop a b) i 0 (omega arith) ∙ (getD-drop a b i 0 ∙ sym v)))
+      | yes f ↦ rw (v, List·getD-eq-default b 0 (past i f (omega arith))) (zero-after s m n i l f (omega arith))
+      | no f ↦ rw (v, List·getD-append s (drop m (replicate n 0)) 0 i (omega arith), e, getD-take m (drop a b) i 0 (omega arith), getD-drop a b i 0)
     ]))
 
 -- The same, where all are there.

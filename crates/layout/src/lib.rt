@@ -112,7 +112,8 @@ pub fn u64_bytes(x: u64) -> [u8; 8]
     [h[0], h[1], h[2], h[3], l[0], l[1], l[2], l[3]]
 }
 
-// The 32 bytes from a place on, as many as are there copied at one go.
+// The 32 bytes from a place on. Where all are there, the copy is of a fixed length, which the compiler
+// makes two moves of; of a place past the end there is no part to copy.
 pub fn bytes32(b: &[u8], at: usize) -> [u8; 32]
     ensures { λ r. ⌜ r ≡ bytesAt (now (b .entry)) at 32 ⌝ }
 {

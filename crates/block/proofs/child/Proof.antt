@@ -12,8 +12,8 @@ kind-below-requires c κs = search needs
 number-requires : tie.Need-number-requires
 number-requires c κs = search needs
 
-bound-below-requires : tie.Need-bound-below-requires
-bound-below-requires c κs = search needs
+child-bound-requires : tie.Need-child-bound-requires
+child-bound-requires c κs = search needs
 
 value-requires : tie.Need-value-requires
 value-requires c κs = search needs
@@ -23,4 +23,4 @@ returns c = cc
 
 pub child-spec : {M : Type 1} → statement M
 child-spec =
-    tie.close (tie.spec kind-requires kind-below-requires number-requires bound-below-requires value-requires returns)
+    tie.close (tie.spec kind-requires kind-below-requires number-requires child-bound-requires value-requires returns)

@@ -1,8 +1,8 @@
 -- The next slot is used, or the block's own bound is handed down.
 use Rattle.block.proofs.Laws.{handed-down, next-number}
 use borrow.Author.Needs.{needs}
-use Rattle.block.proofs.bound_below.Statement.{statement}
-use Rattle.block.proofs.bound_below.Tie as tie
+use Rattle.block.proofs.child_bound.Statement.{statement}
+use Rattle.block.proofs.child_bound.Tie as tie
 
 used-requires : tie.Need-used-requires
 used-requires c κs = search needs
@@ -25,7 +25,7 @@ number-requires c κs = search needs
 returns-2 : tie.Need-returns-2
 returns-2 c = let slots = c .before in next-number _ _ _ _ (slots .before .used .ensures) (slots .if1 .left) _ (c .number .ensures)
 
-pub bound-below-spec : {M : Type 1} → statement M
-bound-below-spec =
+pub child-bound-spec : {M : Type 1} → statement M
+child-bound-spec =
     tie.close
     (tie.spec used-requires cast-if1 add-if1 returns add-number number-requires returns-2)
