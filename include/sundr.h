@@ -420,6 +420,49 @@ uint64_t sundr_block_check(const uint8_t *handle, size_t handle_len,
 	const uint8_t *inode, size_t inode_len, uint32_t index,
 	const uint8_t *block, size_t block_len);
 
+/* The longest part that sundr_block_choose() takes. */
+#define SUNDR_PART_MAX_LEN 65536
+
+/*
+ * sundr_block_choose: which of two parts is the block of a wanted hash, the server's reply or what
+ * the caller has cached. A block is whatever a hash names: a block of an i-table, an inode, a block
+ * of a file.
+ *
+ * Reads the wanted hash, the reply and the cached part. An empty part means that it is not there,
+ * also where the hash of no bytes is wanted. Accepted: the first result is 0, and the reply is the
+ * block; or it is 1, the reply is not, and the cached part is. The second result is the length of
+ * that part, never 0. The reply is hashed first, and the cached part only where the reply is not
+ * the block.
+ *
+ * Nothing is copied: the block is where the caller has it, and sundr_chosen() says where. A block
+ * of 642 bytes is to sundr_lookup() a path of one block, which under the wanted hash it refuses
+ * neither with SUNDR_WRONG_HASH nor for the path's length.
+ *
+ * Refused; tried in this order:
+ *   SUNDR_LENGTH       wanted_len is not 32, or reply_len or cached_len is above 65,536.
+ *   SUNDR_WRONG_HASH   neither part is the block.
+ */
+uint64_t sundr_block_choose(const uint8_t *wanted, size_t wanted_len,
+	const uint8_t *reply, size_t reply_len,
+	const uint8_t *cached, size_t cached_len);
+
+/*
+ * Where the block lies that sundr_block_choose() chose. answer is the call's, whether it accepted or
+ * refused, and reply and cached are the pointers that it was given, one of which this is: the bytes
+ * are the caller's, as before. After a refusal it is reply, and none of its bytes is meant:
+ * sundr_chosen_len() is then 0.
+ */
+static inline const uint8_t *sundr_chosen(uint64_t answer, const uint8_t *reply, const uint8_t *cached)
+{
+	return sundr_first(answer) == 0 ? reply : cached;
+}
+
+/* The length of the block that sundr_block_choose() chose, 0 after a refusal. */
+static inline size_t sundr_chosen_len(uint64_t answer)
+{
+	return sundr_second(answer);
+}
+
 #ifdef __cplusplus
 }
 #endif

@@ -29,6 +29,9 @@ use Rattle.itable.proofs.WrittenAnswers.{written-answers}
 use Rattle.itable.proofs.OtherwiseCollides.{otherwise-collides}
 use Rattle.itable.proofs.BufferAnswersAsTable.{buffer-answers}
 use Rattle.itable.proofs.AtMostBlocks.{at-most-blocks}
+use Rattle.cache.proofs.ChooseMeans.{choose-means}
+use Rattle.cache.proofs.Chosen.{chosen-is-path, empty-is-refused, block-chosen, empty-not-there}
+use Rattle.sundr.proofs.ReadChoose.{chosen-read}
 use Rattle.sundr.proofs.AnswersRead.{answers-read}
 use Rattle.sundr.proofs.ServerInBytes.{server-in-bytes}
 use Rattle.input.proofs.UsersRefused.{users-refused}
@@ -77,6 +80,12 @@ claims =
       buffer-answers = buffer-answers;
       at-most-blocks = at-most-blocks;
       block-check-means = block-check-means;
+      choose-means = choose-means;
+      chosen-is-path = chosen-is-path;
+      empty-is-refused = empty-is-refused;
+      block-chosen = block-chosen;
+      empty-not-there = empty-not-there;
+      chosen-read = chosen-read;
       answers-read = answers-read;
       server-in-bytes = server-in-bytes;
       users-refused = users-refused;

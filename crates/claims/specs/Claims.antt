@@ -23,10 +23,13 @@ use Rattle.itable.specs.Neighbour.{NeighbourRefused}
 use Rattle.itable.specs.Before.{DiffersByThree}
 use Rattle.itable.specs.InodeMeaning.{BlockCheckMeans}
 use Rattle.itable.specs.Answers.{EntryMeans, AtMostBlocks, WrittenAnswers, OtherwiseCollides, BufferAnswersAsTable}
+use Rattle.cache.specs.ChooseMeaning.{ChooseMeans}
+use Rattle.cache.specs.Chosen.{ChosenIsPath, EmptyIsRefused, BlockChosen, EmptyNotThere}
 use Rattle.input.specs.UsersRefused.{UsersRefused}
 use Rattle.report.specs.UsersPrinted.{UsersPrinted}
 use Rattle.report.specs.ExamplePrinted.{ExamplePrinted}
 use Rattle.sundr.specs.Read.{AnswersRead}
+use Rattle.sundr.specs.Chosen.{ChosenRead}
 use Rattle.sundr.specs.Server.{ServerInBytes}
 use Rattle.claims.specs.Examples.{ExamplesHold}
 
@@ -106,6 +109,18 @@ pub record Claims : Type 1 where
   pub at-most-blocks : AtMostBlocks
   -- The check of a file's block accepts exactly where each condition holds, and refuses exactly for the first that does not.
   pub block-check-means : BlockCheckMeans
+  -- The choice between a reply and a cached part accepts exactly the part that is there and has the wanted hash, the reply first; else why not.
+  pub choose-means : ChooseMeans
+  -- What is handed back with a block's length is a path of one block, which the lookup refuses neither for its hash nor for its length.
+  pub chosen-is-path : ChosenIsPath
+  -- Nothing is handed back exactly where the choice is refused.
+  pub empty-is-refused : EmptyIsRefused
+  -- Every block is handed back under its hash, from either side.
+  pub block-chosen : BlockChosen
+  -- No bytes are handed back under no hash, their own included.
+  pub empty-not-there : EmptyNotThere
+  -- The pointer and the length that a caller in C makes of the choice's number are those of the part that is handed back.
+  pub chosen-read : ChosenRead
   -- What a caller in C reads in an answer's number is the answer, for every input of each call.
   pub answers-read : AnswersRead
   -- A server's list is one thing as a struct and as bytes.

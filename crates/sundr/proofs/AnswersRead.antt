@@ -11,6 +11,7 @@ use Rattle.sundr.specs.Read.{IsReadPlain, AnswersRead}
 use Rattle.sundr.proofs.Fits.{small-fits, plain-read}
 use Rattle.sundr.proofs.ReadProtocol.{check-read, compare-read, make-read, list-read, commit-read}
 use Rattle.sundr.proofs.ReadTable.{write-read, lookup-read, block-read}
+use Rattle.sundr.proofs.ReadChoose.{choose-read}
 
 sha256-read : (message : List ℕ) (room : ℕ) → IsReadPlain (hash message room)
 unfolding hash
@@ -30,4 +31,5 @@ answers-read =
       write = write-read;
       lookup = lookup-read;
       block = block-read;
+      choose = choose-read;
     }

@@ -50,7 +50,7 @@ each-fits t k n h l m =
     (λ e. (l, omega arith, omega (arith, first-found t k e .within), omega arith))
 
 -- What is read in a number is what it was made of.
-parts-read :
+pub parts-read :
     (n p q : ℕ) → n < 2 ^ 8 → p < 2 ^ 24 → q < 2 ^ 32 →
     (refusalIn (word n p q) ≡ n) × (firstIn (word n p q) ≡ p) × (secondIn (word n p q) ≡ q)
 parts-read n p q hn hp hq =

@@ -4,5 +4,6 @@ pub mod Into
 pub mod Fits
 pub mod ReadProtocol
 pub mod ReadTable
+pub mod ReadChoose
 pub mod AnswersRead
 pub mod ServerInBytes

@@ -12,7 +12,9 @@ use Rattle.protocol.specs.Server.{commit}
 use Rattle.protocol.specs.declared.Server.{Server}
 use Rattle.itable.specs.Write.{blocksGiven}
 use Rattle.itable.specs.Inode.{Span, blockCheck}
+use Rattle.cache.specs.Choose.{choose}
 use Rattle.sundr.specs.Compare.{compared, standingNumber}
+use Rattle.sundr.specs.Choose.{partNumber, partLength}
 use Rattle.sundr.specs.Server.{makeAt, listedAt}
 use Rattle.sundr.specs.Lookup.{lookedUp, isFound}
 
@@ -62,3 +64,4 @@ pub record AnswersRead : Type 0 where
   pub block :
       (handle inode : List ℕ) (index : ℕ) (block : List ℕ) →
       IsRead (λ (a : Span). a .offset) (λ a. a .size) (blockCheck handle inode index block)
+  pub choose : (wanted reply cached : List ℕ) → IsRead partNumber (partLength reply cached) (choose wanted reply cached)

@@ -3,6 +3,7 @@
 // of a server's list that is lent as bytes and of the buffer for a handle that is looked up, and the
 // numbers that tell how two structures stand.
 mod check;
+mod choose;
 mod compare;
 mod file;
 mod hash;
