@@ -1,5 +1,5 @@
 pub mod Choose
 pub mod ChooseMeaning
-pub mod Chosen
+pub mod Handed
 pub mod Choice
 pub mod HandedBack

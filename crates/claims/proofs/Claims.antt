@@ -30,8 +30,8 @@ use Rattle.itable.proofs.OtherwiseCollides.{otherwise-collides}
 use Rattle.itable.proofs.BufferAnswersAsTable.{buffer-answers}
 use Rattle.itable.proofs.AtMostBlocks.{at-most-blocks}
 use Rattle.cache.proofs.ChooseMeans.{choose-means}
-use Rattle.cache.proofs.Chosen.{chosen-is-path, empty-is-refused, block-chosen, empty-not-there}
-use Rattle.sundr.proofs.ReadChoose.{chosen-read}
+use Rattle.cache.proofs.Handed.{chosen-is-path, empty-is-refused, block-chosen, empty-not-there}
+use Rattle.sundr.proofs.ChosenRead.{chosen-read}
 use Rattle.sundr.proofs.AnswersRead.{answers-read}
 use Rattle.sundr.proofs.ServerInBytes.{server-in-bytes}
 use Rattle.input.proofs.UsersRefused.{users-refused}

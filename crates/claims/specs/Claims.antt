@@ -24,7 +24,7 @@ use Rattle.itable.specs.Before.{DiffersByThree}
 use Rattle.itable.specs.InodeMeaning.{BlockCheckMeans}
 use Rattle.itable.specs.Answers.{EntryMeans, AtMostBlocks, WrittenAnswers, OtherwiseCollides, BufferAnswersAsTable}
 use Rattle.cache.specs.ChooseMeaning.{ChooseMeans}
-use Rattle.cache.specs.Chosen.{ChosenIsPath, EmptyIsRefused, BlockChosen, EmptyNotThere}
+use Rattle.cache.specs.Handed.{ChosenIsPath, EmptyIsRefused, BlockChosen, EmptyNotThere}
 use Rattle.input.specs.UsersRefused.{UsersRefused}
 use Rattle.report.specs.UsersPrinted.{UsersPrinted}
 use Rattle.report.specs.ExamplePrinted.{ExamplePrinted}

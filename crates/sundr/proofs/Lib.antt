@@ -6,4 +6,5 @@ pub mod ReadProtocol
 pub mod ReadTable
 pub mod ReadChoose
 pub mod AnswersRead
+pub mod ChosenRead
 pub mod ServerInBytes

@@ -15,7 +15,7 @@ use Rattle.itable.specs.LookupMeaning.{Fails, missing, wrong-hash, malformed, l
 use Rattle.itable.proofs.LookupMeans.{lookup-means}
 use Rattle.cache.specs.Choose.{Choice, fromReply, fromCache, choose, chosen, handed}
 use Rattle.cache.specs.ChooseMeaning.{Fits, Chosen, the-reply, the-cached, neither}
-use Rattle.cache.specs.Chosen.{handedOf, ChosenIsPath, EmptyIsRefused, BlockChosen, EmptyNotThere}
+use Rattle.cache.specs.Handed.{handedOf, ChosenIsPath, EmptyIsRefused, BlockChosen, EmptyNotThere}
 use Rattle.cache.proofs.ChooseMeans.{choose-means}
 
 module _ (wanted reply cached : List ℕ) where
