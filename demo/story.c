@@ -102,8 +102,16 @@ static const uint8_t *maintainers_record(const struct sent *accepted)
 	return accepted->list + SUNDR_VERSION_LEN * i;
 }
 
-/* Judges a reply under an i-handle: its path, which gives the file handle, then its inode and block under that. */
-static uint64_t judge(const uint8_t *i_handle, const struct reply *reply, uint8_t *file_handle)
+/* Which is the block that a reply's inode names: what came, or what the client has cached. */
+static uint64_t choose(const struct client *client, const struct reply *reply)
+{
+	return sundr_block_choose(reply->inode + 5, SUNDR_SHA256_LEN, reply->block, reply->block_len,
+		client->cached, client->cached_len);
+}
+
+/* Judges a reply under an i-handle: its path, which gives the file handle, then its inode and a block under that. */
+static uint64_t judge(const uint8_t *i_handle, const struct reply *reply, const uint8_t *block, size_t block_len,
+	uint8_t *file_handle)
 {
 	uint64_t answer = sundr_lookup(i_handle, SUNDR_HANDLE_LEN, CHANNEL_TABLE,
 		reply->path, reply->path_len, file_handle, SUNDR_HANDLE_LEN);
@@ -111,8 +119,7 @@ static uint64_t judge(const uint8_t *i_handle, const struct reply *reply, uint8_
 	if (sundr_refusal(answer) != SUNDR_ACCEPTED)
 		return answer;
 	must(sundr_first(answer) == 1, "the channel table's place in the i-table");
-	return sundr_block_check(file_handle, SUNDR_HANDLE_LEN, reply->inode, sizeof reply->inode, 0,
-		reply->block, reply->block_len);
+	return sundr_block_check(file_handle, SUNDR_HANDLE_LEN, reply->inode, sizeof reply->inode, 0, block, block_len);
 }
 
 /* The first four bytes of a hash, to be read. */
@@ -158,21 +165,26 @@ static void fetch(struct client *desk, struct sundr_server *server, const char *
 	struct sent accepted = turn(desk, server, how != QUIETLY);
 	const uint8_t *record = maintainers_record(&accepted);
 	struct reply reply = ask_server(sundr_i_handle(record), CHANNEL_TABLE);
+	uint64_t chosen = choose(desk, &reply);
+	const uint8_t *block = sundr_chosen(chosen, reply.block, desk->cached);
+	size_t block_len = sundr_chosen_len(chosen);
 	uint8_t file_handle[SUNDR_HANDLE_LEN];
 
-	must_accept(judge(sundr_i_handle(record), &reply, file_handle), "the server's reply");
-	must(reply.block_len == strlen(due) && memcmp(reply.block, due, strlen(due)) == 0, "the channel table");
+	must_accept(judge(sundr_i_handle(record), &reply, block, block_len, file_handle), "the server's reply");
+	must(block_len == strlen(due) && memcmp(block, due, strlen(due)) == 0, "the channel table");
 	if (how == SHOWN)
-		tell("It reads \"%.*s\".", (int)reply.block_len, (const char *)reply.block);
+		tell("It reads \"%.*s\".", (int)block_len, (const char *)block);
 	else if (how == LINK_BY_LINK)
 		tell_chain(record, &reply, file_handle);
+	memmove(desk->cached, block, block_len);
+	desk->cached_len = block_len;
 }
 
 /* ---- The scenes. ---- */
 
 static void legend(void)
 {
-	tell("\nSUNDR: files on a server that nobody has to trust. A story in seven scenes.\n");
+	tell("\nSUNDR: files on a server that nobody has to trust. A story in eight scenes.\n");
 	tell("  user 0, the maintainer     keeps a driver tree on the server: %d files, of which file %d is",
 		FILES, CHANNEL_TABLE);
 	tell("                             the channel table, the radio channels that a board may use");
@@ -324,7 +336,8 @@ static void try_reply(struct client *desk, struct sundr_server *server, const ch
 {
 	struct sent accepted = turn(desk, server, 0);
 	uint8_t file_handle[SUNDR_HANDLE_LEN];
-	uint64_t answer = judge(sundr_i_handle(maintainers_record(&accepted)), reply, file_handle);
+	uint64_t answer = judge(sundr_i_handle(maintainers_record(&accepted)), reply,
+		reply->block, reply->block_len, file_handle);
 
 	must_refuse(answer, SUNDR_WRONG_HASH, position, 0);
 	tell("  %-7s%d at %u   %s", what, sundr_refusal(answer), sundr_first(answer),
@@ -340,9 +353,9 @@ static void swapped_pieces(struct client *desk, struct sundr_server *server, con
 	const size_t leaf = 2 * SUNDR_TABLE_BLOCK_LEN;
 
 	tell("\n6. Swapped pieces\n");
-	tell("The list is good, but the server swaps one piece of the tree for that of the old disk. Each time");
-	tell("the release desk refuses, with a number at a position. In a path, 0 is the root and 2 the leaf;");
-	tell("in a file, 0 is the inode and 1 the block.");
+	tell("The list is good, but the server swaps one piece of the tree for that of the old disk. The release");
+	tell("desk looks at the reply alone, and each time refuses, with a number at a position. In a path, 0 is");
+	tell("the root and 2 the leaf; in a file, 0 is the inode and 1 the block.");
 	lie = now;
 	memcpy(lie.path, old.path, SUNDR_TABLE_BLOCK_LEN);
 	try_reply(desk, server, "root", &lie, 0);
@@ -387,16 +400,61 @@ static void a_file_that_is_denied(const struct sundr_server *server)
 	must(answer == 0, "no such file");
 	tell("  file %d   no such file, by the last leaf", STRAY);
 	reply = ask_server(i_handle, CHANNEL_TABLE);
-	answer = judge(i_handle, &reply, file_handle);
+	answer = judge(i_handle, &reply, reply.block, reply.block_len, file_handle);
 	must_refuse(answer, SUNDR_MALFORMED, 2, 0);
 	tell("  file %d   %d at %u   %s", CHANNEL_TABLE, sundr_refusal(answer), sundr_first(answer),
 		sundr_refusal_text(sundr_refusal(answer)));
 }
 
+/* What came in the place of a block, and which the block is, which has to be this one, accepted. */
+static void tell_choice(const struct client *desk, const uint8_t *i_handle, const char *came, const struct reply *reply,
+	const uint8_t *due, const char *which)
+{
+	uint64_t chosen = choose(desk, reply);
+	const uint8_t *block = sundr_chosen(chosen, reply->block, desk->cached);
+	uint8_t file_handle[SUNDR_HANDLE_LEN];
+
+	must(block == due, "where the block lies");
+	must_accept(judge(i_handle, reply, block, sundr_chosen_len(chosen), file_handle), "the chosen block");
+	tell("  %-24s%-16s\"%.*s\"", came, which, (int)sundr_chosen_len(chosen), (const char *)block);
+}
+
+static void from_the_cache(struct client *maintainer, struct client *desk, struct sundr_server *server,
+	const struct sundr_server *old_disk)
+{
+	const uint8_t *i_handle = sundr_i_handle(server->records);
+	struct reply now = ask_server(i_handle, CHANNEL_TABLE);
+	struct reply old = ask_server(sundr_i_handle(old_disk->records), CHANNEL_TABLE);
+	struct reply reply = now;
+	struct sent accepted;
+	uint64_t answer;
+
+	tell("\n8. A block from the cache\n");
+	tell("The release desk keeps the block that it read last. It asks again, and what comes in the place of");
+	tell("the block is not always the block. The hash in the inode says whether to take what came or what");
+	tell("was kept, and it is read where it lies.");
+	tell("  what came               the block is");
+	reply.block_len = 0;
+	tell_choice(desk, i_handle, "nothing", &reply, desk->cached, "the one kept");
+	memcpy(reply.block, old.block, sizeof reply.block);
+	reply.block_len = old.block_len;
+	tell_choice(desk, i_handle, "the old disk's block", &reply, desk->cached, "the one kept");
+	tell_choice(desk, i_handle, "the block", &now, now.block, "what came");
+	commit(maintainer, server, "channels 1 to 14");
+	tell("The release desk fetches, and no block comes. What it kept is no longer the file's:");
+	accepted = turn(desk, server, 1);
+	reply = ask_server(sundr_i_handle(maintainers_record(&accepted)), CHANNEL_TABLE);
+	reply.block_len = 0;
+	answer = choose(desk, &reply);
+	must_refuse(answer, SUNDR_WRONG_HASH, 0, 0);
+	must(sundr_chosen(answer, reply.block, desk->cached) == reply.block && sundr_chosen_len(answer) == 0, "no bytes");
+	tell_refusal(answer);
+}
+
 int main(int argc, char **argv)
 {
-	struct client maintainer = { MAINTAINER, { 0 }, { 0 }, 0 };
-	struct client desk = { RELEASE_DESK, { 0 }, { 0 }, 0 };
+	struct client maintainer = { MAINTAINER, { 0 }, { 0 }, 0, { 0 }, 0 };
+	struct client desk = { RELEASE_DESK, { 0 }, { 0 }, 0, { 0 }, 0 };
 	struct sundr_server server, old_disk;
 
 	must(argc == 2, "usage: story PATH_OF_DESK");
@@ -412,6 +470,7 @@ int main(int argc, char **argv)
 	from_list_to_text(&desk, &server);
 	swapped_pieces(&desk, &server, &old_disk);
 	a_file_that_is_denied(&server);
+	from_the_cache(&maintainer, &desk, &server, &old_disk);
 	tell("\nAll came out as told, in the library and, where a bar stands, in the desk program too.");
 	return 0;
 }

@@ -12,12 +12,17 @@ enum { USERS = 2, MAINTAINER = 0, RELEASE_DESK = 1, FILES = 300, CHANNEL_TABLE =
 /* Ends the program with status 1 unless this holds. */
 void must(int holds, const char *what);
 
-/* A client: its user, the i-handle of its own files, and the structure that it signed last. */
+/* The longest block of the story. */
+enum { BLOCK_MAX = SUNDR_TABLE_BLOCK_LEN };
+
+/* A client: its user, the i-handle of its own files, its last structure, and the block that it read last. */
 struct client {
 	uint8_t user;
 	uint8_t i_handle[SUNDR_HANDLE_LEN];
 	uint8_t memory[SUNDR_VERSION_LEN];
 	size_t memory_len;
+	uint8_t cached[BLOCK_MAX];
+	size_t cached_len;
 };
 
 /* A server's list as it is sent: the records, and a good mark for each. */
@@ -32,8 +37,6 @@ void show_desk(const struct client *client, const struct sent *sent, uint64_t an
 extern const char *desk_program;
 
 /* blocks.c: the server's blocks, each under its hash, and what it replies when it is asked for a file. */
-enum { BLOCK_MAX = SUNDR_TABLE_BLOCK_LEN };
-
 struct reply {
 	uint8_t path[SUNDR_PATH_MAX_BLOCKS * SUNDR_TABLE_BLOCK_LEN];
 	size_t path_len;

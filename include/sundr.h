@@ -46,9 +46,9 @@ extern "C" {
 #endif
 
 /* The version of the library that this header belongs to. */
-#define SUNDR_VERSION "0.6.0"
+#define SUNDR_VERSION "0.7.0"
 #define SUNDR_VERSION_MAJOR 0
-#define SUNDR_VERSION_MINOR 6
+#define SUNDR_VERSION_MINOR 7
 #define SUNDR_VERSION_PATCH 0
 
 /* The numbers in bits 0 to 7 of an answer. */
