@@ -46,8 +46,22 @@ const fn openssl(name: &'static str, features: &'static str, sha: bool) -> Entry
 
 const REFERENCE: &str = "second implementation, rustc -O";
 const HASHES: &str = "its hashes alone";
+const CHOOSERS: [Entry; 2] = [entry("libsundr.a", "choose_sundr"), entry(HASHES, "choose_hashes")];
 
-pub const CONTESTS: [Contest; 9] = [
+/// A choice between two parts of the same length, which the title has; the size is what is hashed.
+const fn choice(title: &'static str, size: &'static [usize; 1]) -> Contest {
+    Contest {
+        title,
+        call: "sundr_block_choose",
+        measure: Measure::Bytes,
+        sizes: size,
+        rows: size,
+        go: 2 << 20,
+        entries: &CHOOSERS,
+    }
+}
+
+pub const CONTESTS: [Contest; 13] = [
     Contest {
         title: "SHA-256",
         call: "sundr_sha256",
@@ -138,6 +152,11 @@ pub const CONTESTS: [Contest; 9] = [
         go: 2 << 20,
         entries: &[entry("libsundr.a", "itable_sundr"), entry(HASHES, "itable_hashes")],
     },
+    // The reply is the wanted block; or it is not, and the cached part is, and both are hashed.
+    choice("The reply chosen, 642 bytes", &[642]),
+    choice("The reply chosen, 8,192 bytes", &[8_192]),
+    choice("The cache chosen, 642 bytes", &[2 * 642]),
+    choice("The cache chosen, 8,192 bytes", &[2 * 8_192]),
 ];
 
 impl Contest {
