@@ -33,7 +33,7 @@
  *     sundr_compare              8        sundr_table_write      1,328
  *     sundr_check            2,244        sundr_lookup             944
  *     sundr_server_make_at      24        sundr_block_check        672
- *     sundr_server_list_at   1,800
+ *     sundr_server_list_at   1,800        sundr_block_choose       656
  */
 #ifndef SUNDR_H
 #define SUNDR_H
