@@ -1,5 +1,5 @@
 -- What is handed back has the wanted hash: so the lookup finds in it the hash that it expects, and it is not empty.
-use Prim.Native.Nat.{ℕ, zero, suc}
+use Prim.Native.Nat.{ℕ}
 use mathlib.Core.List.{List, []}
 use mathlib.Core.Path.{_≡_, refl, ap, _∙_}
 use native.Mathlib.Omega.{arith}

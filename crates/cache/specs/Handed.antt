@@ -34,6 +34,6 @@ BlockChosen =
     ((choose (sha256 b) b [] ≡ accepted fromReply) × (handedOf (sha256 b) b [] ≡ b)) ×
     ((choose (sha256 b) [] b ≡ accepted fromCache) × (handedOf (sha256 b) [] b ≡ b))
 
--- "Even if the hash of no bytes is wanted": no bytes do not fit.
+-- "Even if the hash of no bytes is wanted": that hash fits no empty part.
 abbrev pub EmptyNotThere : Type 0
 EmptyNotThere = choose (sha256 []) [] [] ≡ refused 8 0 0

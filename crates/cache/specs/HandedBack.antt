@@ -1,4 +1,5 @@
--- "Without copying": what is handed back is one of the lent slices itself, and not only equal to it.
+-- "Without copying": what is handed back is one of the lent slices itself, and not only equal to it. A reference to a slice (`RefT`) is where it
+-- points, `ptr`, and the elements there, `now`, with the name under which the logic follows them.
 use Prim.Native.Nat.{ℕ}
 use mathlib.Core.List.{List, []}
 use mathlib.Core.Path.{_≡_}

@@ -117,9 +117,9 @@ pub record Claims : Type 1 where
   pub empty-is-refused : EmptyIsRefused
   -- Every block is handed back under its hash, from either side.
   pub block-chosen : BlockChosen
-  -- No bytes are handed back under no hash, their own included.
+  -- An empty part is not there, also where the hash of no bytes is wanted.
   pub empty-not-there : EmptyNotThere
-  -- The pointer and the length that a caller in C makes of the choice's number are those of the part that is handed back.
+  -- The pointer and the length that a caller in C makes of the choice's number are those of the slice that is handed back.
   pub chosen-read : ChosenRead
   -- What a caller in C reads in an answer's number is the answer, for every input of each call.
   pub answers-read : AnswersRead

@@ -13,13 +13,13 @@ at-start : (p : ℕ × ℕ) → (p .0, 0 + p .1) ≡ p
 at-start p = let e : 0 + p .1 ≡ p .1 = omega arith in ap (λ (o : ℕ). (p .0, o)) e
 
 enum-told : tie.Need-enum-told
-enum-told c = search needs
+enum-told c = c .match .keys1
 
 enum-told-2 : tie.Need-enum-told-2
-enum-told-2 c = search needs
+enum-told-2 c = c .match .keys2
 
 enum-told-3 : tie.Need-enum-told-3
-enum-told-3 c = search needs
+enum-told-3 c = c .match .keys3
 
 sub-result : tie.Need-sub-result
 sub-result c = search needs
