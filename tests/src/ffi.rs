@@ -52,6 +52,15 @@ extern "C" {
         block: *const u8,
         block_len: usize,
     ) -> u64;
+
+    pub fn sundr_block_choose(
+        wanted: *const u8,
+        wanted_len: usize,
+        reply: *const u8,
+        reply_len: usize,
+        cached: *const u8,
+        cached_len: usize,
+    ) -> u64;
 }
 
 /// What a call answers, unpacked from its 64 bits: two results, or a refusal's number and two positions.
@@ -81,4 +90,18 @@ impl From<Result<(u32, u32), Refusal>> for Answer {
             Err(Refusal(number, first, second)) => Answer::Refused(number, first, second),
         }
     }
+}
+
+/// Where the block lies that sundr_block_choose chose, by the header's rule.
+pub fn sundr_chosen(answer: u64, reply: *const u8, cached: *const u8) -> *const u8 {
+    if (answer >> 8) & 0xff_ffff == 0 {
+        reply
+    } else {
+        cached
+    }
+}
+
+/// The length of that block, 0 after a refusal.
+pub fn sundr_chosen_len(answer: u64) -> usize {
+    (answer >> 32) as usize
 }

@@ -94,7 +94,8 @@ fn judge(request: &Request, seen: &mut Seen, random: &mut Random) -> Outcome {
     })
 }
 
-fn flip(bytes: &mut [u8], random: &mut Random) {
+/// One bit, if there is one.
+pub fn flip(bytes: &mut [u8], random: &mut Random) {
     if !bytes.is_empty() {
         bytes[random.below(bytes.len())] ^= 1 << random.below(8);
     }

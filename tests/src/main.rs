@@ -3,15 +3,18 @@
 
 mod bounds;
 mod check;
+mod choose;
 mod compare;
 mod desk;
 mod ffi;
 mod guarded;
+mod handed;
 mod histories;
 mod inode;
 mod itable;
 mod lists;
 mod lookup;
+mod parts;
 mod paths;
 mod random;
 mod reference;
@@ -33,5 +36,7 @@ fn main() -> std::process::ExitCode {
     lookup::checks(&mut runner);
     bounds::checks(&mut runner);
     inode::checks(&mut runner);
+    choose::checks(&mut runner);
+    handed::checks(&mut runner);
     runner.finish()
 }

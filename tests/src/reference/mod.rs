@@ -2,6 +2,7 @@
 //! without a look at the library's code.
 
 pub mod check;
+pub mod choose;
 pub mod inode;
 pub mod input;
 pub mod itable;
