@@ -1,8 +1,8 @@
 /*
  * Every call of include/sundr.h, accepted and refused, for stacks to be measured by: stack.c makes them on a small one,
  * ../bench/depths.c on a painted one. All that a call is lent lies in static memory, so that the stack is the call's
- * alone. A refusal is by the test that is tried last, or after the last hash; sundr_compare() has none. A case may be
- * made any number of times, and its answer is the same.
+ * alone. A refusal is by the test that is tried last, or after the last hash, that of sundr_block_choose() also before
+ * its first; sundr_compare() has none. A case may be made any number of times, and its answer is the same.
  */
 #ifndef STACK_CASES_H
 #define STACK_CASES_H
@@ -237,6 +237,27 @@ static void check_other_block(void)
 	answer = sundr_block_check(file_handle, sizeof file_handle, inode, sizeof inode, 0, message, sizeof block);
 }
 
+/* The inode has the block's hash, after its first five bytes. */
+static void choose_reply(void)
+{
+	answer = sundr_block_choose(inode + 5, 32, block, sizeof block, message, sizeof block);
+}
+
+static void choose_cached(void)
+{
+	answer = sundr_block_choose(inode + 5, 32, message, sizeof block, block, sizeof block);
+}
+
+static void choose_neither(void)
+{
+	answer = sundr_block_choose(handle, sizeof handle, message, sizeof block, block, sizeof block);
+}
+
+static void choose_too_long(void)
+{
+	answer = sundr_block_choose(inode + 5, 32, block, sizeof block, message, sizeof message);
+}
+
 /* The cases, those of a call together: the call, on what, what makes it, and the answer that is due. */
 static const struct {
 	const char *call, *on;
@@ -267,6 +288,10 @@ static const struct {
 	{"sundr_lookup", "three blocks, a bit of the last altered", look_up_altered, ANSWER(SUNDR_WRONG_HASH, 2, 0)},
 	{"sundr_block_check", "8,192 bytes", check_block, ANSWER(SUNDR_ACCEPTED, 0, 8192)},
 	{"sundr_block_check", "8,192 other bytes", check_other_block, ANSWER(SUNDR_WRONG_HASH, 1, 0)},
+	{"sundr_block_choose", "8,192 bytes, the reply", choose_reply, ANSWER(SUNDR_ACCEPTED, 0, 8192)},
+	{"sundr_block_choose", "8,192 bytes, cached", choose_cached, ANSWER(SUNDR_ACCEPTED, 1, 8192)},
+	{"sundr_block_choose", "8,192 bytes twice, neither wanted", choose_neither, ANSWER(SUNDR_WRONG_HASH, 0, 0)},
+	{"sundr_block_choose", "65,537 bytes cached", choose_too_long, ANSWER(SUNDR_LENGTH, 0, 0)},
 };
 
 enum { CASES = sizeof cases / sizeof cases[0] };
