@@ -435,8 +435,8 @@ uint64_t sundr_block_check(const uint8_t *handle, size_t handle_len,
  * the block.
  *
  * Nothing is copied: the block is where the caller has it, and sundr_chosen() says where. A block
- * of 642 bytes is to sundr_lookup() a path of one block, which under the wanted hash it refuses
- * neither with SUNDR_WRONG_HASH nor for the path's length.
+ * of 642 bytes is to sundr_lookup() a path of one block, which under the wanted hash it never
+ * refuses with SUNDR_WRONG_HASH, nor, given 32 bytes for its result, with SUNDR_LENGTH.
  *
  * Refused; tried in this order:
  *   SUNDR_LENGTH       wanted_len is not 32, or reply_len or cached_len is above 65,536.
@@ -449,8 +449,8 @@ uint64_t sundr_block_choose(const uint8_t *wanted, size_t wanted_len,
 /*
  * Where the block lies that sundr_block_choose() chose. answer is the call's, whether it accepted or
  * refused, and reply and cached are the pointers that it was given, one of which this is: the bytes
- * are the caller's, as before. After a refusal it is reply, and none of its bytes is meant:
- * sundr_chosen_len() is then 0.
+ * are the caller's, as before. After a refusal it is reply, NULL if that was given, and none of its
+ * bytes is meant: sundr_chosen_len() is then 0.
  */
 static inline const uint8_t *sundr_chosen(uint64_t answer, const uint8_t *reply, const uint8_t *cached)
 {

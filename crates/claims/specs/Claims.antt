@@ -111,7 +111,7 @@ pub record Claims : Type 1 where
   pub block-check-means : BlockCheckMeans
   -- The choice between a reply and a cached part accepts exactly the part that is there and has the wanted hash, the reply first; else why not.
   pub choose-means : ChooseMeans
-  -- What is handed back with a block's length is a path of one block, which the lookup refuses neither for its hash nor for its length.
+  -- What is handed back with the length of a table's block is to the lookup a path of one block, which it refuses neither with 8 nor with 2.
   pub chosen-is-path : ChosenIsPath
   -- Nothing is handed back exactly where the choice is refused.
   pub empty-is-refused : EmptyIsRefused
