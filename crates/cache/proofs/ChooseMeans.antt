@@ -30,7 +30,7 @@ fits-mean wanted (x ∷ xs) = (
   λ f. rw (lt-ltb 0 (suc (length xs)) (omega arith), f .hashed) (same-refl wanted),
 )
 
-unfits : {wanted part : List ℕ} → fits wanted part ≡ false → Fits wanted part → ⊥
+pub unfits : {wanted part : List ℕ} → fits wanted part ≡ false → Fits wanted part → ⊥
 unfits {wanted} {part} e f = not-both (fits-mean wanted part .1 f) e
 
 module _ (wanted reply cached : List ℕ) where

@@ -1,3 +1,3 @@
-pub mod Laws
 pub mod ChooseMeans
+pub mod Laws
 pub mod Handed

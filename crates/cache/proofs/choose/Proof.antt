@@ -9,10 +9,10 @@ returns : tie.Need-returns
 returns c = wrong-wanted _ _ _ (c .if1 .taken)
 
 returns-2 : tie.Need-returns-2
-returns-2 c = long-reply _ _ _ (c .before .if1 .left) (c .if2 .taken)
+returns-2 c = long-reply _ _ _ (c .if2 .taken)
 
 returns-3 : tie.Need-returns-3
-returns-3 c = let r = c .before in long-cached _ _ _ (r .before .if1 .left) (r .if2 .left) (c .if3 .taken)
+returns-3 c = long-cached _ _ _ (c .if3 .taken)
 
 fits-requires : tie.Need-fits-requires
 fits-requires c κs = search needs
