@@ -11,8 +11,6 @@ use borrow.Author.Tests.{eqb-true, eq-eqb, leb-true, le-leb, lt-ltb}
 use Rattle.search.proofs.Bool.{bool-cases, both-true, either-true, left-true, right-true, not-both}
 use Rattle.layout.specs.Strings.{same}
 use Rattle.layout.proofs.Strings.{same-true, same-refl}
-use Rattle.refusal.specs.Answer.{accepted, refused}
-use Rattle.refusal.specs.Order.{unless}
 use Rattle.refusal.proofs.Means.{Means, means-accepted, means-refused, Stage, Either, Unless, alike, and-then, tests-mean, test-means, concludes}
 use Rattle.sha256.specs.Sha256.{sha256}
 use Rattle.cache.specs.Choose.{Choice, fromReply, fromCache, fits, chooseSteps, choose}

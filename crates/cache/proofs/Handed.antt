@@ -1,5 +1,5 @@
 -- What is handed back has the wanted hash: so the lookup finds in it the hash that it expects, and it is not empty.
-use Prim.Native.Nat.{ℕ}
+use Prim.Native.Nat.{ℕ, _≤_}
 use mathlib.Core.List.{List, []}
 use mathlib.Core.Path.{_≡_, refl, ap, _∙_}
 use native.Mathlib.Omega.{arith}
@@ -13,9 +13,9 @@ use Rattle.itable.specs.Block.{size}
 use Rattle.itable.specs.declared.Link.{Link}
 use Rattle.itable.specs.LookupMeaning.{Fails, missing, wrong-hash, malformed, left-over, later, Why, lengths, along}
 use Rattle.itable.proofs.LookupMeans.{lookup-means}
-use Rattle.cache.specs.Choose.{Choice, fromReply, fromCache, choose, chosen, handed}
+use Rattle.cache.specs.Choose.{Choice, fromReply, fromCache, choose, chosen, handed, handedOf}
 use Rattle.cache.specs.ChooseMeaning.{Fits, Chosen, the-reply, the-cached, neither}
-use Rattle.cache.specs.Handed.{handedOf, ChosenIsPath, EmptyIsRefused, BlockChosen, EmptyNotThere}
+use Rattle.cache.specs.Handed.{ChosenIsPath, EmptyIsRefused, BlockChosen, EmptyNotThere}
 use Rattle.cache.proofs.ChooseMeans.{choose-means}
 
 module _ (wanted reply cached : List ℕ) where
@@ -74,23 +74,31 @@ chosen-is-path wanted reply cached i l =
       λ n p q e. not-refused wanted h (f .0) l (f .1 .hashed) i (lookup-means wanted i h .1 n p q .0 e),
     )
 
--- Any block, and no bytes beside it.
+-- Any part, and no bytes beside it.
+module _ (b : List ℕ) (s : 1 ≤ length b) (l : length b ≤ 65536) where
+  fits-itself : Fits (sha256 b) b
+  fits-itself = record { there = λ e. let n : length b ≡ 0 = ap length e in omega (arith, s, n); hashed = refl }
+
+  as-reply : choose (sha256 b) b [] ≡ accepted fromReply
+  as-reply =
+      choose-means (sha256 b) b [] .0 fromReply .1
+      (the-reply (record { wanted-long = sha256-length b; reply-most = l; cached-most = omega arith }) fits-itself)
+
+  as-cached : choose (sha256 b) [] b ≡ accepted fromCache
+  as-cached =
+      choose-means (sha256 b) [] b .0 fromCache .1
+      (the-cached (record { wanted-long = sha256-length b; reply-most = omega arith; cached-most = l }) (λ e. e .there refl) fits-itself)
+
 pub block-chosen : BlockChosen
-block-chosen b l =
-    let f : Fits (sha256 b) b = record { there = not-empty b l; hashed = refl } in
-    let r : choose (sha256 b) b [] ≡ accepted fromReply =
-    choose-means (sha256 b) b [] .0 fromReply .1
-    (the-reply (record { wanted-long = sha256-length b; reply-most = omega (arith, l); cached-most = omega arith }) f)
-    in
-    let c : choose (sha256 b) [] b ≡ accepted fromCache =
-    choose-means (sha256 b) [] b .0 fromCache .1
-    (the-cached (record { wanted-long = sha256-length b; reply-most = omega arith; cached-most = omega (arith, l) })
-    (λ e. e .there refl) f)
-    in
-    ((r, rw r), (c, rw c))
+block-chosen b s l = let r = as-reply b s l in let c = as-cached b s l in ((r, rw r), (c, rw c))
 
 pub empty-not-there : EmptyNotThere
-empty-not-there =
-    choose-means (sha256 []) [] [] .1 8 0 0 .1
-    (neither (record { wanted-long = sha256-length []; reply-most = omega arith; cached-most = omega arith })
-    (λ e. e .there refl) (λ e. e .there refl))
+empty-not-there = (
+  λ wanted other. (
+    λ e. chosen-fits wanted [] other (choose-means wanted [] other .0 fromReply .0 e) .1 .there refl,
+    λ e. chosen-fits wanted other [] (choose-means wanted other [] .0 fromCache .0 e) .1 .there refl,
+  ),
+  choose-means (sha256 []) [] [] .1 8 0 0 .1
+      (neither (record { wanted-long = sha256-length []; reply-most = omega arith; cached-most = omega arith })
+      (λ e. e .there refl) (λ e. e .there refl)),
+)

@@ -39,3 +39,7 @@ chosen fromCache reply cached = cached
 abbrev pub handed : Answer Choice → List ℕ → List ℕ → List ℕ
 handed (accepted c) reply cached = chosen c reply cached
 handed (refused n p q) reply cached = []
+
+-- What is handed back of these three.
+abbrev pub handedOf : List ℕ → List ℕ → List ℕ → List ℕ
+handedOf wanted reply cached = handed (choose wanted reply cached) reply cached

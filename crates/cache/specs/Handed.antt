@@ -1,5 +1,5 @@
 -- What is known of the bytes that are handed back.
-use Prim.Native.Nat.{ℕ}
+use Prim.Native.Nat.{ℕ, _≤_}
 use mathlib.Core.List.{List, []}
 use mathlib.Core.Logic.{_↔_}
 use mathlib.Core.Path.{_≡_}
@@ -9,11 +9,7 @@ use Rattle.refusal.specs.Answer.{accepted, refused, Refused}
 use Rattle.sha256.specs.Sha256.{sha256}
 use Rattle.itable.specs.Block.{size}
 use Rattle.itable.specs.Lookup.{lookup}
-use Rattle.cache.specs.Choose.{fromReply, fromCache, choose, handed}
-
--- What is handed back of these three.
-abbrev pub handedOf : List ℕ → List ℕ → List ℕ → List ℕ
-handedOf wanted reply cached = handed (choose wanted reply cached) reply cached
+use Rattle.cache.specs.Choose.{fromReply, fromCache, choose, handedOf}
 
 -- "A part of 642 bytes handed back is to demand 2's lookup a path of one block, which under the wanted hash it never refuses with 8"; nor, as a path
 -- of one whole block under a hash of 32 bytes, with 2.
@@ -27,13 +23,16 @@ ChosenIsPath =
 abbrev pub EmptyIsRefused : Type 0
 EmptyIsRefused = (wanted reply cached : List ℕ) → (handedOf wanted reply cached ≡ []) ↔ Refused (choose wanted reply cached)
 
--- Every block is handed back under its hash, as the reply where nothing is cached, and from the cache where there is no reply.
+-- Every part of 1 to 65,536 bytes is handed back under its hash, as the reply where nothing is cached, and from the cache where there is no reply.
 abbrev pub BlockChosen : Type 0
 BlockChosen =
-    (b : List ℕ) → length b ≡ 642 →
+    (b : List ℕ) → 1 ≤ length b → length b ≤ 65536 →
     ((choose (sha256 b) b [] ≡ accepted fromReply) × (handedOf (sha256 b) b [] ≡ b)) ×
     ((choose (sha256 b) [] b ≡ accepted fromCache) × (handedOf (sha256 b) [] b ≡ b))
 
--- "Even if the hash of no bytes is wanted": that hash fits no empty part.
+-- "An empty part means not there": it is never chosen, whatever is wanted and whatever the other part is; "even if the hash of no bytes is wanted".
 abbrev pub EmptyNotThere : Type 0
-EmptyNotThere = choose (sha256 []) [] [] ≡ refused 8 0 0
+EmptyNotThere =
+    ((wanted other : List ℕ) →
+    (choose wanted [] other ≡ accepted fromReply → ⊥) × (choose wanted other [] ≡ accepted fromCache → ⊥)) ×
+    (choose (sha256 []) [] [] ≡ refused 8 0 0)

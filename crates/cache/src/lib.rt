@@ -4,7 +4,7 @@ use refusal::Refusal;
 ghost use mathlib.Core.Path.{_≡_};
 ghost use Prim.Native.Nat.{_≤_};
 ghost use lib.ListN.{length};
-ghost use Rattle.cache.specs.Choose.{fits as fitsOf, choose as chooseOf, handed};
+ghost use Rattle.cache.specs.Choose.{fits as fitsOf, choose as chooseOf, handed, handedOf};
 ghost use Rattle.cache.specs.Choice.{answerOf};
 ghost use Rattle.cache.specs.HandedBack.{HandedBack};
 
@@ -70,8 +70,7 @@ pub fn part<'a>(c: Choice, reply: &'a [u8], cached: &'a [u8]) -> &'a [u8]
 // The block of the wanted hash: the one call after the other. Who wants to know as well why nothing
 // is handed back calls the two.
 pub fn block<'a>(wanted: &[u8], reply: &'a [u8], cached: &'a [u8]) -> &'a [u8]
-    ensures bytes { λ r. ⌜ now r ≡ handed (chooseOf (now (wanted .entry)) (now (reply .entry)) (now (cached .entry)))
-        (now (reply .entry)) (now (cached .entry)) ⌝ }
+    ensures bytes { λ r. ⌜ now r ≡ handedOf (now (wanted .entry)) (now (reply .entry)) (now (cached .entry)) ⌝ }
     ensures place { λ r. ⌜ HandedBack (chooseOf (now (wanted .entry)) (now (reply .entry)) (now (cached .entry)))
         (reply .entry) (cached .entry) r ⌝ }
 {

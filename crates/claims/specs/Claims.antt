@@ -109,15 +109,15 @@ pub record Claims : Type 1 where
   pub at-most-blocks : AtMostBlocks
   -- The check of a file's block accepts exactly where each condition holds, and refuses exactly for the first that does not.
   pub block-check-means : BlockCheckMeans
-  -- The choice between a reply and a cached part accepts exactly the part that is there and has the wanted hash, the reply first; else why not.
+  -- A choice between a reply and a cached part accepts exactly the one that is there and has the wanted hash, the reply first; else why it is refused.
   pub choose-means : ChooseMeans
   -- What is handed back with the length of a table's block is to the lookup a path of one block, which it refuses neither with 8 nor with 2.
   pub chosen-is-path : ChosenIsPath
   -- Nothing is handed back exactly where the choice is refused.
   pub empty-is-refused : EmptyIsRefused
-  -- Every block is handed back under its hash, from either side.
+  -- Every part of 1 to 65,536 bytes is handed back under its hash, from either side.
   pub block-chosen : BlockChosen
-  -- An empty part is not there, also where the hash of no bytes is wanted.
+  -- An empty part is never chosen, whatever is wanted, the hash of no bytes too.
   pub empty-not-there : EmptyNotThere
   -- The pointer and the length that a caller in C makes of the choice's number are those of the slice that is handed back.
   pub chosen-read : ChosenRead

@@ -1,7 +1,7 @@
 // The calls for C and other languages, as include/sundr.h declares them: each is one call of a
 // layer below, with its answer as one number of 64 bits. All that is decided here is two lengths,
 // of a server's list that is lent as bytes and of the buffer for a handle that is looked up, and the
-// numbers that tell how two structures stand.
+// numbers that tell how two structures stand and which part was chosen.
 mod check;
 mod choose;
 mod compare;
