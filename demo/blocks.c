@@ -81,7 +81,7 @@ struct reply ask_server(const uint8_t *i_handle, uint64_t number)
 		reply.path_len += block->len;
 		i_handle = lead(block, number);
 	} while (block->bytes[0] != LEAF);
-	copy(i_handle, reply.inode);
+	reply.inode_len = copy(i_handle, reply.inode)->len;
 	reply.block_len = copy(reply.inode + 5, reply.block)->len;
 	return reply;
 }

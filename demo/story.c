@@ -102,24 +102,47 @@ static const uint8_t *maintainers_record(const struct sent *accepted)
 	return accepted->list + SUNDR_VERSION_LEN * i;
 }
 
-/* Which is the block that a reply's inode names: what came, or what the client has cached. */
-static uint64_t choose(const struct client *client, const struct reply *reply)
-{
-	return sundr_block_choose(reply->inode + 5, SUNDR_SHA256_LEN, reply->block, reply->block_len,
-		client->cached, client->cached_len);
-}
-
-/* Judges a reply under an i-handle: its path, which gives the file handle, then its inode and a block under that. */
-static uint64_t judge(const uint8_t *i_handle, const struct reply *reply, const uint8_t *block, size_t block_len,
-	uint8_t *file_handle)
+/* The file handle, by a reply's path under an i-handle. */
+static uint64_t look_up(const uint8_t *i_handle, const struct reply *reply, uint8_t *file_handle)
 {
 	uint64_t answer = sundr_lookup(i_handle, SUNDR_HANDLE_LEN, CHANNEL_TABLE,
 		reply->path, reply->path_len, file_handle, SUNDR_HANDLE_LEN);
 
+	if (sundr_refusal(answer) == SUNDR_ACCEPTED)
+		must(sundr_first(answer) == 1, "the channel table's place in the i-table");
+	return answer;
+}
+
+/* A file of one block, where it lies. */
+struct file {
+	const uint8_t *inode;
+	const uint8_t *block;
+	size_t block_len;
+};
+
+/*
+ * A file from a reply, or from what the client kept, piece by piece: the inode under the file handle, then the block
+ * under the hash in that inode, and then both are checked.
+ */
+static uint64_t read_file(const struct client *client, const struct reply *reply, const uint8_t *file_handle,
+	struct file *file)
+{
+	const struct cache *kept = &client->cache;
+	uint64_t answer = sundr_block_choose(file_handle, SUNDR_HANDLE_LEN, reply->inode, reply->inode_len,
+		kept->inode, kept->inode_len);
+
 	if (sundr_refusal(answer) != SUNDR_ACCEPTED)
 		return answer;
-	must(sundr_first(answer) == 1, "the channel table's place in the i-table");
-	return sundr_block_check(file_handle, SUNDR_HANDLE_LEN, reply->inode, sizeof reply->inode, 0, block, block_len);
+	must(sundr_chosen_len(answer) == SUNDR_INODE_LEN, "an inode's length");
+	file->inode = sundr_chosen(answer, reply->inode, kept->inode);
+	answer = sundr_block_choose(file->inode + 5, SUNDR_SHA256_LEN, reply->block, reply->block_len,
+		kept->block, kept->block_len);
+	if (sundr_refusal(answer) != SUNDR_ACCEPTED)
+		return answer;
+	file->block = sundr_chosen(answer, reply->block, kept->block);
+	file->block_len = sundr_chosen_len(answer);
+	return sundr_block_check(file_handle, SUNDR_HANDLE_LEN, file->inode, SUNDR_INODE_LEN, 0,
+		file->block, file->block_len);
 }
 
 /* The first four bytes of a hash, to be read. */
@@ -157,6 +180,15 @@ static void tell_chain(const uint8_t *record, const struct reply *reply, const u
 	tell("  block              %s    \"%.*s\"", block, (int)reply->block_len, (const char *)reply->block);
 }
 
+/* Keeps a file that was read, of which a piece may lie there already. */
+static void keep(struct cache *cache, const struct file *file)
+{
+	memmove(cache->inode, file->inode, SUNDR_INODE_LEN);
+	cache->inode_len = SUNDR_INODE_LEN;
+	memmove(cache->block, file->block, file->block_len);
+	cache->block_len = file->block_len;
+}
+
 enum how { QUIETLY, SHOWN, LINK_BY_LINK };
 
 /* A fetch by the release desk: its turn, then the channel table, which has to say this. */
@@ -165,19 +197,17 @@ static void fetch(struct client *desk, struct sundr_server *server, const char *
 	struct sent accepted = turn(desk, server, how != QUIETLY);
 	const uint8_t *record = maintainers_record(&accepted);
 	struct reply reply = ask_server(sundr_i_handle(record), CHANNEL_TABLE);
-	uint64_t chosen = choose(desk, &reply);
-	const uint8_t *block = sundr_chosen(chosen, reply.block, desk->cached);
-	size_t block_len = sundr_chosen_len(chosen);
 	uint8_t file_handle[SUNDR_HANDLE_LEN];
+	struct file file;
 
-	must_accept(judge(sundr_i_handle(record), &reply, block, block_len, file_handle), "the server's reply");
-	must(block_len == strlen(due) && memcmp(block, due, strlen(due)) == 0, "the channel table");
+	must_accept(look_up(sundr_i_handle(record), &reply, file_handle), "the reply's path");
+	must_accept(read_file(desk, &reply, file_handle, &file), "the file");
+	must(file.block_len == strlen(due) && memcmp(file.block, due, strlen(due)) == 0, "the channel table");
 	if (how == SHOWN)
-		tell("It reads \"%.*s\".", (int)block_len, (const char *)block);
+		tell("It reads \"%.*s\".", (int)file.block_len, (const char *)file.block);
 	else if (how == LINK_BY_LINK)
 		tell_chain(record, &reply, file_handle);
-	memmove(desk->cached, block, block_len);
-	desk->cached_len = block_len;
+	keep(&desk->cache, &file);
 }
 
 /* ---- The scenes. ---- */
@@ -336,9 +366,11 @@ static void try_reply(struct client *desk, struct sundr_server *server, const ch
 {
 	struct sent accepted = turn(desk, server, 0);
 	uint8_t file_handle[SUNDR_HANDLE_LEN];
-	uint64_t answer = judge(sundr_i_handle(maintainers_record(&accepted)), reply,
-		reply->block, reply->block_len, file_handle);
+	uint64_t answer = look_up(sundr_i_handle(maintainers_record(&accepted)), reply, file_handle);
 
+	if (sundr_refusal(answer) == SUNDR_ACCEPTED)
+		answer = sundr_block_check(file_handle, sizeof file_handle, reply->inode, reply->inode_len, 0,
+			reply->block, reply->block_len);
 	must_refuse(answer, SUNDR_WRONG_HASH, position, 0);
 	tell("  %-7s%d at %u   %s", what, sundr_refusal(answer), sundr_first(answer),
 		sundr_refusal_text(sundr_refusal(answer)));
@@ -400,61 +432,68 @@ static void a_file_that_is_denied(const struct sundr_server *server)
 	must(answer == 0, "no such file");
 	tell("  file %d   no such file, by the last leaf", STRAY);
 	reply = ask_server(i_handle, CHANNEL_TABLE);
-	answer = judge(i_handle, &reply, reply.block, reply.block_len, file_handle);
+	answer = look_up(i_handle, &reply, file_handle);
 	must_refuse(answer, SUNDR_MALFORMED, 2, 0);
 	tell("  file %d   %d at %u   %s", CHANNEL_TABLE, sundr_refusal(answer), sundr_first(answer),
 		sundr_refusal_text(sundr_refusal(answer)));
 }
 
-/* What came in the place of a block, and which the block is, which has to be this one, accepted. */
-static void tell_choice(const struct client *desk, const uint8_t *i_handle, const char *came, const struct reply *reply,
-	const uint8_t *due, const char *which)
+/* A fetch by the release desk that gets this reply, and how it ends. */
+static uint64_t fetch_from(struct client *desk, struct sundr_server *server, const struct reply *reply,
+	struct file *file)
 {
-	uint64_t chosen = choose(desk, reply);
-	const uint8_t *block = sundr_chosen(chosen, reply->block, desk->cached);
+	struct sent accepted = turn(desk, server, 0);
 	uint8_t file_handle[SUNDR_HANDLE_LEN];
 
-	must(block == due, "where the block lies");
-	must_accept(judge(i_handle, reply, block, sundr_chosen_len(chosen), file_handle), "the chosen block");
-	tell("  %-24s%-16s\"%.*s\"", came, which, (int)sundr_chosen_len(chosen), (const char *)block);
+	must_accept(look_up(sundr_i_handle(maintainers_record(&accepted)), reply, file_handle), "the reply's path");
+	return read_file(desk, reply, file_handle, file);
+}
+
+/* One that has to be accepted, and to read the block here. */
+static void tell_choice(struct client *desk, struct sundr_server *server, const char *came, const struct reply *reply,
+	const char *which, const uint8_t *here)
+{
+	struct file file;
+
+	must_accept(fetch_from(desk, server, reply, &file), "the chosen block");
+	must(file.block == here, "where the block lies");
+	tell("  %-24s%-16s\"%.*s\"", came, which, (int)file.block_len, (const char *)file.block);
 }
 
 static void from_the_cache(struct client *maintainer, struct client *desk, struct sundr_server *server,
 	const struct sundr_server *old_disk)
 {
-	const uint8_t *i_handle = sundr_i_handle(server->records);
-	struct reply now = ask_server(i_handle, CHANNEL_TABLE);
+	/* Slot 0 of a server's list is the maintainer's. */
+	struct reply now = ask_server(sundr_i_handle(server->records), CHANNEL_TABLE);
 	struct reply old = ask_server(sundr_i_handle(old_disk->records), CHANNEL_TABLE);
-	struct reply reply = now;
-	struct sent accepted;
+	struct reply nothing = now, lie = now;
+	struct file file;
 	uint64_t answer;
 
 	tell("\n8. A block from the cache\n");
-	tell("The release desk keeps the block that it read last. It asks again, and what comes in the place of");
-	tell("the block is not always the block. The hash in the inode says whether to take what came or what");
-	tell("was kept, and it is read where it lies.");
-	tell("  what came               the block is");
-	reply.block_len = 0;
-	tell_choice(desk, i_handle, "nothing", &reply, desk->cached, "the one kept");
-	memcpy(reply.block, old.block, sizeof reply.block);
-	reply.block_len = old.block_len;
-	tell_choice(desk, i_handle, "the old disk's block", &reply, desk->cached, "the one kept");
-	tell_choice(desk, i_handle, "the block", &now, now.block, "what came");
+	tell("The release desk keeps the file that it read last. It fetches again, and what comes in the place of");
+	tell("the block is not always the block. The inode's hash says whether to read what came or what was");
+	tell("kept. Neither is copied: the block is read where it lies.");
+	tell("  what came               what is read");
+	nothing.block_len = 0;
+	tell_choice(desk, server, "nothing", &nothing, "the block kept", desk->cache.block);
+	memcpy(lie.block, old.block, sizeof lie.block);
+	tell_choice(desk, server, "the old disk's block", &lie, "the block kept", desk->cache.block);
+	tell_choice(desk, server, "the block", &now, "what came", now.block);
 	commit(maintainer, server, "channels 1 to 14");
-	tell("The release desk fetches, and no block comes. What it kept is no longer the file's:");
-	accepted = turn(desk, server, 1);
-	reply = ask_server(sundr_i_handle(maintainers_record(&accepted)), CHANNEL_TABLE);
-	reply.block_len = 0;
-	answer = choose(desk, &reply);
+	tell("The release desk fetches, and the old disk's block comes. What was kept is not the block either:");
+	now = ask_server(sundr_i_handle(server->records), CHANNEL_TABLE);
+	memcpy(now.block, old.block, sizeof now.block);
+	answer = fetch_from(desk, server, &now, &file);
 	must_refuse(answer, SUNDR_WRONG_HASH, 0, 0);
-	must(sundr_chosen(answer, reply.block, desk->cached) == reply.block && sundr_chosen_len(answer) == 0, "no bytes");
+	must(sundr_chosen_len(answer) == 0, "no bytes");
 	tell_refusal(answer);
 }
 
 int main(int argc, char **argv)
 {
-	struct client maintainer = { MAINTAINER, { 0 }, { 0 }, 0, { 0 }, 0 };
-	struct client desk = { RELEASE_DESK, { 0 }, { 0 }, 0, { 0 }, 0 };
+	struct client maintainer = { .user = MAINTAINER };
+	struct client desk = { .user = RELEASE_DESK };
 	struct sundr_server server, old_disk;
 
 	must(argc == 2, "usage: story PATH_OF_DESK");

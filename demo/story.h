@@ -15,14 +15,21 @@ void must(int holds, const char *what);
 /* The longest block of the story. */
 enum { BLOCK_MAX = SUNDR_TABLE_BLOCK_LEN };
 
-/* A client: its user, the i-handle of its own files, its last structure, and the block that it read last. */
+/* What a client keeps of a file that it read: the inode, and the block. */
+struct cache {
+	uint8_t inode[SUNDR_INODE_LEN];
+	size_t inode_len;
+	uint8_t block[BLOCK_MAX];
+	size_t block_len;
+};
+
+/* A client: its user, the i-handle of its own files, the structure it signed last, and the file it read last. */
 struct client {
 	uint8_t user;
 	uint8_t i_handle[SUNDR_HANDLE_LEN];
 	uint8_t memory[SUNDR_VERSION_LEN];
 	size_t memory_len;
-	uint8_t cached[BLOCK_MAX];
-	size_t cached_len;
+	struct cache cache;
 };
 
 /* A server's list as it is sent: the records, and a good mark for each. */
@@ -41,6 +48,7 @@ struct reply {
 	uint8_t path[SUNDR_PATH_MAX_BLOCKS * SUNDR_TABLE_BLOCK_LEN];
 	size_t path_len;
 	uint8_t inode[SUNDR_INODE_LEN];
+	size_t inode_len;
 	uint8_t block[BLOCK_MAX];
 	size_t block_len;
 };

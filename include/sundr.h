@@ -434,9 +434,10 @@ uint64_t sundr_block_check(const uint8_t *handle, size_t handle_len,
  * that part, never 0. The reply is hashed first, and the cached part only where the reply is not
  * the block.
  *
- * Nothing is copied: the block is where the caller has it, and sundr_chosen() says where. A block
- * of 642 bytes is to sundr_lookup() a path of one block, which under the wanted hash it never
- * refuses with SUNDR_WRONG_HASH, nor, given 32 bytes for its result, with SUNDR_LENGTH.
+ * Nothing is copied: the block is where the caller has it, as sundr_chosen() says, and is the block
+ * for as long as the caller leaves these bytes as they are. One of 642 bytes is to sundr_lookup() a
+ * path of one block, which under the wanted hash it never refuses with SUNDR_WRONG_HASH, nor, given
+ * 32 bytes for its result, with SUNDR_LENGTH.
  *
  * Refused; tried in this order:
  *   SUNDR_LENGTH       wanted_len is not 32, or reply_len or cached_len is above 65,536.

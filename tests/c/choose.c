@@ -6,7 +6,6 @@
 
 #include <string.h>
 
-#include "bytes.h"
 #include "check.h"
 
 /* What is lent is constant where it can be: a call that writes to it faults. The hash has room for a byte more. */
@@ -197,6 +196,12 @@ static void handed_on(void)
 	chosen_at = sundr_chosen(chosen, block, inode);
 	check("the file's block, by that inode", sundr_block_check(found, sizeof found, chosen_at, sundr_chosen_len(chosen),
 		0, block, sizeof block) == answer_of(SUNDR_ACCEPTED, 0, sizeof block));
+
+	sundr_sha256(blocks, 2 * SUNDR_TABLE_BLOCK_LEN, hash, sizeof hash);
+	chosen = sundr_block_choose(hash, sizeof hash, NULL, 0, blocks, 2 * SUNDR_TABLE_BLOCK_LEN);
+	chosen_at = sundr_chosen(chosen, NULL, blocks);
+	check("two blocks are handed back, and are no path under their hash",
+		chosen == answer_of(SUNDR_ACCEPTED, 1, 2 * SUNDR_TABLE_BLOCK_LEN) && look_up(83) == answer_of(SUNDR_WRONG_HASH, 0, 0));
 
 	blocks[2 * SUNDR_TABLE_BLOCK_LEN - 1] = 1;
 	choose_block(1, CACHED);

@@ -1,8 +1,8 @@
 /*
  * Every call of include/sundr.h, accepted and refused, for stacks to be measured by: stack.c makes them on a small one,
  * ../bench/depths.c on a painted one. All that a call is lent lies in static memory, so that the stack is the call's
- * alone. A refusal is by the test that is tried last, or after the last hash, that of sundr_block_choose() also before
- * its first; sundr_compare() has none. A case may be made any number of times, and its answer is the same.
+ * alone. A refusal is by the test that is tried last, or after the last hash; sundr_block_choose() has one before its
+ * first hash too, and sundr_compare() has none. A case may be made any number of times, and its answer is the same.
  */
 #ifndef STACK_CASES_H
 #define STACK_CASES_H

@@ -84,8 +84,7 @@ fn handed_on() -> Outcome {
 
         let buffers = [&wanted, reply, cached].map(|bytes| Guarded::new(bytes, &mut random));
         let lent = buffers.each_ref().map(|buffer| (buffer.pointer(), buffer.len()));
-        let (path, len) = call(lent, Ok(due))?;
-        equal("the length of what is handed back", len, BLOCK)?;
+        let (path, _) = call(lent, Ok(due))?;
         look_up(&buffers[0], path, &block, &mut seen[due as usize], &mut random)?;
         buffers.iter().try_for_each(Guarded::unaltered)?;
     }
