@@ -160,16 +160,17 @@ static void hash_hex(const uint8_t *bytes, size_t len, char *text)
 }
 
 /* The chain of an accepted fetch: the hash of each link is what the link before it gave. */
-static void tell_chain(const uint8_t *record, const struct reply *reply, const uint8_t *file_handle)
+static void tell_chain(const uint8_t *record, const struct reply *reply, const uint8_t *file_handle,
+	const struct file *file)
 {
 	char i_handle[9], root[9], handle[9], inode[9], first[9], block[9];
 
 	hex(sundr_i_handle(record), i_handle);
 	hash_hex(reply->path, SUNDR_TABLE_BLOCK_LEN, root);
 	hex(file_handle, handle);
-	hash_hex(reply->inode, sizeof reply->inode, inode);
-	hex(reply->inode + 5, first);
-	hash_hex(reply->block, reply->block_len, block);
+	hash_hex(file->inode, SUNDR_INODE_LEN, inode);
+	hex(file->inode + 5, first);
+	hash_hex(file->block, file->block_len, block);
 	must(strcmp(root, i_handle) == 0 && strcmp(inode, handle) == 0 && strcmp(block, first) == 0, "each link's hash");
 	tell("  link               hash        what it gives");
 	tell("  list               (checked)   record of user %u", sundr_owner(record));
@@ -177,7 +178,7 @@ static void tell_chain(const uint8_t *record, const struct reply *reply, const u
 	tell("  path of %u blocks   %s    file handle %s, for file %d",
 		(unsigned)(reply->path_len / SUNDR_TABLE_BLOCK_LEN), root, handle, CHANNEL_TABLE);
 	tell("  inode              %s    block hash %s", inode, first);
-	tell("  block              %s    \"%.*s\"", block, (int)reply->block_len, (const char *)reply->block);
+	tell("  block              %s    \"%.*s\"", block, (int)file->block_len, (const char *)file->block);
 }
 
 /* Keeps a file that was read, of which a piece may lie there already. */
@@ -206,7 +207,7 @@ static void fetch(struct client *desk, struct sundr_server *server, const char *
 	if (how == SHOWN)
 		tell("It reads \"%.*s\".", (int)file.block_len, (const char *)file.block);
 	else if (how == LINK_BY_LINK)
-		tell_chain(record, &reply, file_handle);
+		tell_chain(record, &reply, file_handle, &file);
 	keep(&desk->cache, &file);
 }
 
@@ -360,7 +361,7 @@ static void from_list_to_text(struct client *desk, struct sundr_server *server)
 	fetch(desk, server, "channels 1 to 13", LINK_BY_LINK);
 }
 
-/* A fetch that gets this reply, and has to refuse it at this position. */
+/* A turn, and a reply to it that has to be refused at this position. */
 static void try_reply(struct client *desk, struct sundr_server *server, const char *what,
 	const struct reply *reply, uint32_t position)
 {
@@ -458,6 +459,7 @@ static void tell_choice(struct client *desk, struct sundr_server *server, const 
 	must_accept(fetch_from(desk, server, reply, &file), "the chosen block");
 	must(file.block == here, "where the block lies");
 	tell("  %-24s%-16s\"%.*s\"", came, which, (int)file.block_len, (const char *)file.block);
+	keep(&desk->cache, &file);
 }
 
 static void from_the_cache(struct client *maintainer, struct client *desk, struct sundr_server *server,
@@ -472,8 +474,8 @@ static void from_the_cache(struct client *maintainer, struct client *desk, struc
 
 	tell("\n8. A block from the cache\n");
 	tell("The release desk keeps the file that it read last. It fetches again, and what comes in the place of");
-	tell("the block is not always the block. The inode's hash says whether to read what came or what was");
-	tell("kept. Neither is copied: the block is read where it lies.");
+	tell("the block is not always the block. The hash in the inode says whether to read what came or what");
+	tell("was kept. Neither is copied: the block is read where it lies.");
 	tell("  what came               what is read");
 	nothing.block_len = 0;
 	tell_choice(desk, server, "nothing", &nothing, "the block kept", desk->cache.block);

@@ -448,12 +448,13 @@ uint64_t sundr_block_choose(const uint8_t *wanted, size_t wanted_len,
 	const uint8_t *cached, size_t cached_len);
 
 /*
- * Where the block lies that sundr_block_choose() chose. answer is the call's, whether it accepted or
- * refused, and reply and cached are the pointers that it was given, one of which this is: the bytes
- * are the caller's, as before. After a refusal it is reply, NULL if that was given, and none of its
- * bytes is meant: sundr_chosen_len() is then 0.
+ * Where the block lies that sundr_block_choose() chose. answer is the call's, accepted or refused,
+ * and reply and cached are the pointers that it was given, one of which this is: the bytes are the
+ * caller's, as before. After a refusal it is reply, NULL if that was given, and none of its bytes
+ * is meant: sundr_chosen_len() is then 0.
  */
-static inline const uint8_t *sundr_chosen(uint64_t answer, const uint8_t *reply, const uint8_t *cached)
+static inline const uint8_t *sundr_chosen(uint64_t answer,
+	const uint8_t *reply, const uint8_t *cached)
 {
 	return sundr_first(answer) == 0 ? reply : cached;
 }

@@ -192,16 +192,19 @@ static void handed_on(void)
 	check("a leaf from the cache: the file is found", chosen_at == blocks + SUNDR_TABLE_BLOCK_LEN && is_found());
 
 	chosen = sundr_block_choose(found, sizeof found, block, sizeof block, inode, sizeof inode);
-	check("the inode that the file's handle names, from the cache", chosen == answer_of(SUNDR_ACCEPTED, 1, sizeof inode));
+	check("the inode that the file's handle names, from the cache",
+		chosen == answer_of(SUNDR_ACCEPTED, 1, sizeof inode));
 	chosen_at = sundr_chosen(chosen, block, inode);
-	check("the file's block, by that inode", sundr_block_check(found, sizeof found, chosen_at, sundr_chosen_len(chosen),
-		0, block, sizeof block) == answer_of(SUNDR_ACCEPTED, 0, sizeof block));
+	chosen = sundr_block_choose(chosen_at + 5, 32, block, sizeof block, inode, sizeof inode);
+	check("the file's block, by that inode, from the reply", chosen == answer_of(SUNDR_ACCEPTED, 0, sizeof block)
+		&& sundr_block_check(found, sizeof found, chosen_at, sizeof inode, 0, sundr_chosen(chosen, block, inode),
+			sundr_chosen_len(chosen)) == answer_of(SUNDR_ACCEPTED, 0, sizeof block));
 
 	sundr_sha256(blocks, 2 * SUNDR_TABLE_BLOCK_LEN, hash, sizeof hash);
 	chosen = sundr_block_choose(hash, sizeof hash, NULL, 0, blocks, 2 * SUNDR_TABLE_BLOCK_LEN);
 	chosen_at = sundr_chosen(chosen, NULL, blocks);
-	check("two blocks are handed back, and are no path under their hash",
-		chosen == answer_of(SUNDR_ACCEPTED, 1, 2 * SUNDR_TABLE_BLOCK_LEN) && look_up(83) == answer_of(SUNDR_WRONG_HASH, 0, 0));
+	check("two blocks are handed back", chosen == answer_of(SUNDR_ACCEPTED, 1, 2 * SUNDR_TABLE_BLOCK_LEN));
+	check("two blocks are no path under their hash", look_up(83) == answer_of(SUNDR_WRONG_HASH, 0, 0));
 
 	blocks[2 * SUNDR_TABLE_BLOCK_LEN - 1] = 1;
 	choose_block(1, CACHED);

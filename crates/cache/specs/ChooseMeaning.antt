@@ -8,7 +8,7 @@ use Rattle.refusal.specs.Answer.{accepted, refused}
 use Rattle.sha256.specs.Sha256.{sha256}
 use Rattle.cache.specs.Choose.{Choice, fromReply, fromCache, choose}
 
--- 2: "if the wanted hash is not 32 bytes or a part is over 65,536".
+-- 2: a wanted hash of 32 bytes, and parts of at most 65,536.
 pub record Sizes (wanted reply cached : List ℕ) : Type 0 where
   pub wanted-long : length wanted ≡ 32
   pub reply-most : length reply ≤ 65536
@@ -19,7 +19,7 @@ pub record Fits (wanted part : List ℕ) : Type 0 where
   pub there : part ≡ [] → ⊥
   pub hashed : sha256 part ≡ wanted
 
--- "The reply if its hash is the wanted one, otherwise the cached block if its hash is."
+-- "hand back the reply if its hash is the wanted one, otherwise the cached block if its hash is".
 pub data Chosen (wanted reply cached : List ℕ) : Choice → Type 0 where
   the-reply : Sizes wanted reply cached → Fits wanted reply → Chosen wanted reply cached fromReply
   the-cached : Sizes wanted reply cached → (Fits wanted reply → ⊥) → Fits wanted cached → Chosen wanted reply cached fromCache

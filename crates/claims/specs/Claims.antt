@@ -109,7 +109,8 @@ pub record Claims : Type 1 where
   pub at-most-blocks : AtMostBlocks
   -- The check of a file's block accepts exactly where each condition holds, and refuses exactly for the first that does not.
   pub block-check-means : BlockCheckMeans
-  -- A choice between a reply and a cached part accepts exactly the one that is there and has the wanted hash, the reply first; else why it is refused.
+  -- Of a reply and a cached part, both of a length that is taken, the one is chosen that is there and has the wanted hash, the reply first; a choice
+  -- is refused exactly for a length, or where neither is the one.
   pub choose-means : ChooseMeans
   -- What is handed back with the length of a table's block is to the lookup a path of one block, which it refuses neither with 8 nor with 2.
   pub chosen-is-path : ChosenIsPath

@@ -15,7 +15,7 @@ pub enum Part {
 /// The part that is handed back whole, or why an empty one is.
 pub type Chosen = Result<Part, Refusal>;
 
-/// "Hand back the reply if its hash is the wanted one, otherwise the cached block if its hash is."
+/// "hand back the reply if its hash is the wanted one, otherwise the cached block if its hash is"
 pub fn choose(wanted: &[u8], reply: &[u8], cached: &[u8]) -> Chosen {
     if wanted.len() != 32 || [reply, cached].iter().any(|part| part.len() > LONGEST_PART) {
         return Err(Refusal(2, 0, 0));
