@@ -53,10 +53,10 @@ module _ (path : List ℕ) (one : parts size path ≡ 1) (i : ℕ) where
   along-one h (left-over e w f l) = (λ z. omega (arith, z), λ z. omega (arith, z))
   along-one h (later j w l f) = along-one (λ z. absurd (omega (arith, z))) f
 
--- A block is not empty, and under its hash it is not refused for that hash, nor for its length.
-not-empty : (b : List ℕ) → length b ≡ 642 → b ≡ [] → ⊥
-not-empty b l e = let n : length b ≡ 0 = ap length e in omega (arith, l, n)
+not-empty : (b : List ℕ) → 1 ≤ length b → b ≡ [] → ⊥
+not-empty b s e = let n : length b ≡ 0 = ap length e in omega (arith, s, n)
 
+-- A block under its hash is not refused for that hash, nor for its length.
 module _ (wanted b : List ℕ) (w : length wanted ≡ 32) (l : length b ≡ 642) (e : sha256 b ≡ wanted) (i : ℕ) where
   one-block : parts size b ≡ 1
   one-block = rw l
@@ -69,7 +69,7 @@ module _ (wanted b : List ℕ) (w : length wanted ≡ 32) (l : length b ≡ 642)
 pub chosen-is-path : ChosenIsPath
 chosen-is-path wanted reply cached i l =
     let h = handedOf wanted reply cached in
-    let f = handed-fits wanted reply cached (choose wanted reply cached) refl (not-empty h l) in (
+    let f = handed-fits wanted reply cached (choose wanted reply cached) refl (not-empty h (omega (arith, l))) in (
       one-block wanted h (f .0) l (f .1 .hashed) i,
       λ n p q e. not-refused wanted h (f .0) l (f .1 .hashed) i (lookup-means wanted i h .1 n p q .0 e),
     )
@@ -77,7 +77,7 @@ chosen-is-path wanted reply cached i l =
 -- Any part, and no bytes beside it.
 module _ (b : List ℕ) (s : 1 ≤ length b) (l : length b ≤ 65536) where
   fits-itself : Fits (sha256 b) b
-  fits-itself = record { there = λ e. let n : length b ≡ 0 = ap length e in omega (arith, s, n); hashed = refl }
+  fits-itself = record { there = not-empty b s; hashed = refl }
 
   as-reply : choose (sha256 b) b [] ≡ accepted fromReply
   as-reply =
