@@ -22,3 +22,4 @@ pub mod WrittenLeafGives
 pub mod Bounds
 pub mod NeighbourRefused
 pub mod DiffersByThree
+pub mod Many

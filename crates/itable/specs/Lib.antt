@@ -14,3 +14,4 @@ pub mod LeafGives
 pub mod Bounds
 pub mod Neighbour
 pub mod Before
+pub mod Internal
