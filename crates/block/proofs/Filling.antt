@@ -8,7 +8,7 @@ use native.Mathlib.Numerals.{add-one}
 use native.Mathlib.Omega.{arith}
 use lib.Dec.{leb, eqb}
 use lib.ListN.{length, getD, take, drop, set, replicate, replicate-append-replicate, length-set, length-append, length-take, length-drop, drop-of-length-le}
-use lib.Seq.{take-suc-set, take-at, take-append-add, take-length, length-take-le}
+use lib.Seq.{take-suc-set, take-at, take-length}
 use borrow.Author.Tests.{eq-eqb, ne-eqb, le-leb, lt-leb, leb-true, eqb-true}
 use borrow.Rule.Slice.PartMut.{putMid}
 use Rattle.search.proofs.Bool.{both-true}
@@ -18,7 +18,7 @@ use Rattle.layout.proofs.Parts.{part-length}
 use Rattle.itable.specs.Block.{size}
 use Rattle.itable.specs.Table.{Level, slots, block, files}
 use Rattle.block.specs.Filled.{fits, filled}
-use Rattle.block.proofs.Lent.{mid, mid-length}
+use Rattle.block.proofs.Lent.{mid-length, mid-next}
 
 -- Zeros from a place on: none yet, and one more.
 pub uncleared : (from : ℕ) (o : List ℕ) → take from o ≡ take from o ++ replicate (from - from) 0
@@ -82,20 +82,10 @@ module _ (κ : ℕ) (nums values : List ℕ) (few : length nums ≤ 16) (handled
       let f : s ≡ bytes8 (getD nums j 0) ++ part 32 values j = rw n at es in
       let ls : length s ≡ 40 =
       ap length f ∙ simp (length-append, length-bytes8, part-length 32 values j (omega arith)) in
-      let lt : length (take (2 + 40 * j) o) ≡ 2 + 40 * j = length-take-le (2 + 40 * j) o (omega arith) in
-      let a : 2 + 40 * (j + 1) ≡ length (take (2 + 40 * j) o) + 40 = omega arith in
+      let a : 2 + 40 * (j + 1) ≡ 2 + 40 * j + 40 = omega arith in
       let z : 0 + j ≡ j = omega arith in (
         mid-length (2 + 40 * j) 40 o s ls (omega arith) ∙ l,
-        rw (
-          mid (2 + 40 * j) 40 o s,
-          a,
-          take-append-add (take (2 + 40 * j) o),
-          take-at s _ 40 ls,
-          e,
-          f,
-          slots-last (files nums values) 0 j,
-          z,
-        ),
+        rw (a, mid-next (2 + 40 * j) 40 o s ls (omega arith), e, f, slots-last (files nums values) 0 j, z),
       )
 
   pub fill-all :

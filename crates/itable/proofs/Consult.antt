@@ -1,14 +1,14 @@
 -- One block of a lookup: what it takes to pass it, and what follows.
-use Prim.Native.Nat.{ℕ, zero, suc}
+use Prim.Native.Nat.{ℕ, zero, suc, _-_, _≤_, _<_}
 use mathlib.Core.Bool.{true}
 use mathlib.Core.List.{List, [], _∷_}
-use mathlib.Core.Path.{_≡_}
+use mathlib.Core.Path.{_≡_, refl, ap}
 use native.Mathlib.Omega.{arith}
 use borrow.Author.Tests.{eq-eqb, ne-eqb}
 use Rattle.layout.specs.Bytes.{part}
 use Rattle.layout.specs.Strings.{same}
 use Rattle.layout.proofs.Strings.{same-refl, same-true}
-use Rattle.refusal.specs.Answer.{Answer, accepted}
+use Rattle.refusal.specs.Answer.{Answer, accepted, refused}
 use Rattle.refusal.specs.Order.{unless, inOrder}
 use Rattle.refusal.proofs.Order.{passed, unless-passed}
 use Rattle.sha256.specs.Sha256.{sha256}
@@ -52,6 +52,29 @@ module _ (b : List ℕ) (i left d : ℕ) (on : ℕ → Answer Entry) where
       (j : ℕ) → (kind b ≡ 3 → ⊥) → lastAtMost (number b) i (used b) ≡ suc j → answerAt b i left d on ≡ on j
   unfolding answerAt
   answer-on j k e = rw (ne-eqb (kind b) 3 k, e)
+
+-- The lookup from block d of n on: there is none, or it is this one.
+module _ (path : List ℕ) (i n d : ℕ) (k : Link) where
+  pub consult-none : n ≤ d → consult path i (n - d) d k ≡ refused 9 d 0
+  unfolding consult
+  consult-none h = let z : n - d ≡ 0 = omega arith in rw z
+
+  pub consult-next :
+      d < n →
+      consult path i (n - d) d k ≡
+      inOrder (unless (same (sha256 (part size path d)) (k .hash)) 8 d 0 ∷ unless (wellFormed k (part size path d)) 3 d 0 ∷ [])
+      (answerAt (part size path d) i (n - d - 1) (suc d) (along path i (n - d - 1) d k (part size path d)))
+  unfolding consult
+  consult-next h = let e : n - d ≡ suc (n - d - 1) = omega arith in ap (λ m. consult path i m d k) e
+
+-- Blocks left over refuse what is known, and otherwise it is accepted.
+pub known-over : (left d : ℕ) (e : Entry) → 0 < left → known left d e ≡ refused 9 d 0
+known-over zero d e h = absurd (omega arith)
+known-over (suc left) d e h = refl
+
+pub known-last : (left d : ℕ) (e : Entry) → left ≤ 0 → known left d e ≡ accepted e
+known-last zero d e h = refl
+known-last (suc left) d e h = absurd (omega arith)
 
 pub known-accepts : (left d : ℕ) {a e : Entry} → known left d a ≡ accepted e → a ≡ e
 known-accepts zero d h = cc

@@ -4,7 +4,7 @@ use Prim.Native.Nat.{ℕ, zero, suc, _+_, _*_, _/_, _≤_, _<_}
 use mathlib.Core.Bool.{Bool}
 use mathlib.Core.List.{List}
 use mathlib.Core.Logic.{⊎-elim}
-use mathlib.Core.Path.{_≡_, refl, subst, _∙_}
+use mathlib.Core.Path.{_≡_, refl, sym, subst, _∙_}
 use native.Mathlib.Nat.{eq-or-lt-of-le}
 use native.Mathlib.Omega.{arith}
 use lib.Dec.{ltb, eqb}
@@ -83,16 +83,24 @@ last-at f i n (suc j) h lo hi = last-slot f i n j h (lo j (omega arith)) (λ m a
 
 -- The answer among n numbers, where j is the first that is i, and where none is.
 module _ (f : ℕ → ℕ) (g : ℕ → List ℕ) (n i : ℕ) where
+  -- By the first place of the number, which is past the others where it is not there.
+  module _ (j : ℕ) (e : j ≡ find (λ m. eqb (f m) i) 0 n) where
+    pub entry-first : j < n → entryIn f g n i ≡ lookup.found (g j)
+    unfolding entryIn
+    entry-first h = rw (sym e, lt-ltb j n h)
+
+    pub entry-past : n ≤ j → entryIn f g n i ≡ absent
+    unfolding entryIn
+    entry-past h = rw (sym e, le-ltb j n h)
+
   pub entry-found : (j : ℕ) → j < n → ((m : ℕ) → m < j → f m ≡ i → ⊥) → f j ≡ i → entryIn f g n i ≡ lookup.found (g j)
-  unfolding entryIn
   entry-found j h b e =
       let q : find (λ m. eqb (f m) i) 0 n ≡ j =
       find-at (λ m. eqb (f m) i) 0 n j (omega arith) (omega arith) (λ m _ l. ne-eqb (f m) i (b m l)) (eq-eqb (f j) i e) in
-      rw (q, lt-ltb j n h)
+      entry-first j (sym q) h
 
   pub entry-absent : ((j : ℕ) → j < n → f j ≡ i → ⊥) → entryIn f g n i ≡ absent
-  unfolding entryIn
   entry-absent b =
       let q : find (λ m. eqb (f m) i) 0 n ≡ n =
       find-none (λ m. eqb (f m) i) 0 n (λ m _ l. ne-eqb (f m) i (b m (omega arith))) ∙ omega arith in
-      rw (q, le-ltb n n (omega arith))
+      entry-past n (sym q) (omega arith)

@@ -3,3 +3,4 @@ pub mod Eight
 pub mod Parts
 pub mod Values
 pub mod Strings
+pub mod Copied

@@ -6,7 +6,7 @@ use native.Mathlib.Decide.{decLe}
 use native.Mathlib.Numerals.{add-one}
 use native.Mathlib.Omega.{arith}
 use lib.ListN.{length, getD, take, drop, set, replicate, length-append, length-drop, length-replicate, getD-replicate, List·getD-append, List·getD-eq-default}
-use lib.Seq.{take-suc-set, take-length, length-take-le, getD-take, getD-drop, getD-append-add, ext-getD}
+use lib.Seq.{take-suc-set, take-length, take-all, length-take-le, getD-take, getD-drop, getD-append-add, ext-getD}
 use Rattle.layout.specs.Bytes.{values, bytesAt}
 
 pub length-values : (f : ℕ → ℕ) (i k : ℕ) → length (values f i k) ≡ k
@@ -37,6 +37,10 @@ values-part b a n h =
     let k : i < n = omega (arith, length-values (λ i. getD b (a + i) 0) 0 n) in
     let z : 0 + i ≡ i = omega arith in
     getD-values _ 0 n i k ∙ (ap (λ j. getD b (a + j) 0) z ∙ (sym (getD-drop a b i 0) ∙ sym (getD-take n (drop a b) i 0 k))))
+
+-- All of them.
+pub values-whole : (b : List ℕ) (n : ℕ) → length b ≡ n → bytesAt b 0 n ≡ b
+values-whole b n l = values-part b 0 n (omega arith) ∙ take-all n b (omega arith)
 
 -- A byte after m others that were copied over n zeros.
 zero-after : (s : List ℕ) (m n i : ℕ) → length s ≡ m → m ≤ i → i < n → getD (s ++ drop m (replicate n 0)) i 0 ≡ 0

@@ -3,14 +3,12 @@ use Prim.Native.Nat.{ℕ, suc, _+_, _-_, _*_, _≤_, _<_}
 use mathlib.Core.List.{List}
 use mathlib.Core.Path.{_≡_, sym, ap, subst, _∙_}
 use native.Mathlib.Omega.{arith}
-use lib.ListN.{length, take, drop}
-use lib.Seq.{take-all}
+use lib.ListN.{take, drop}
 use Rattle.refusal.specs.Answer.{Answer, refused}
-use Rattle.layout.specs.Bytes.{bytesAt}
-use Rattle.layout.proofs.Values.{values-part}
 use Rattle.itable.specs.Block.{size, toChild}
 use Rattle.itable.specs.declared.Link.{Link}
 use Rattle.itable.specs.Lookup.{Entry, consult}
+use Rattle.itable.proofs.Consult.{consult-none, consult-next}
 use Rattle.lookup.specs.Looked.{Looks}
 use Rattle.lookup.specs.Internal.Step.{ending, following, Consulted}
 use Rattle.lookup.specs.declared.End.{End}
@@ -18,16 +16,11 @@ use Rattle.lookup.specs.declared.Looked.{Looked}
 use Rattle.lookup.specs.declared.Step.{Step}
 use Rattle.lookup.specs.declared.Step.the-variants.{Ends, Leads}
 
--- A handle that is read whole.
-pub whole-handle : (handle : List ℕ) → length handle ≡ 32 → bytesAt handle 0 32 ≡ handle
-whole-handle handle l = values-part handle 0 32 (omega arith) ∙ take-all 32 handle (omega arith)
-
 module _ (path : List ℕ) (i n d : ℕ) (k : Link) where
   -- No block is left.
   pub none-more :
       n ≤ d → {a : Answer Entry} → consult path i (n - d) d k ≡ a → {r : Looked} → Looks (refused 9 d 0) r → Looks a r
-  unfolding consult
-  none-more h q l = let z : n - d ≡ 0 = omega arith in rw (← q, z) l
+  none-more h q l = rw (← q, consult-none path i n d k h) l
 
   -- Block d, of m bytes.
   module _ (h : d < n) (m : ℕ) (em : m ≡ size) {s : Step} (st : Consulted (take m (drop (size * d) path)) k i s) where
@@ -38,10 +31,7 @@ module _ (path : List ℕ) (i n d : ℕ) (k : Link) where
     on j = consult path i (n - d - 1) (suc d) (toChild k block j)
 
     next : consult path i (n - d) d k ≡ following s block (n - d - 1) d on
-    unfolding consult
-    next =
-        let e : n - d ≡ suc (n - d - 1) = omega arith in
-        let t = rw em at st in ap (λ x. consult path i x d k) e ∙ rw em (t .says (n - d - 1) d _)
+    next = let t = rw em at st in consult-next path i n d k h ∙ rw em (t .says (n - d - 1) d _)
 
     pub ends-here :
         {e : End} → s ≡ Ends e → {a : Answer Entry} → consult path i (n - d) d k ≡ a → {r : Looked} →

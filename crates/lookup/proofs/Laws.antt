@@ -6,7 +6,6 @@ use mathlib.Core.Path.{_≡_, sym, ap, _∙_}
 use native.Mathlib.Omega.{arith}
 use lib.Dec.{eqb}
 use lib.ListN.{length}
-use borrow.Author.Tests.{lt-ltb, le-ltb}
 use Rattle.search.specs.Search.{find}
 use Rattle.layout.specs.Strings.{same}
 use Rattle.refusal.specs.Order.{inOrder}
@@ -15,9 +14,9 @@ use Rattle.sha256.specs.Hash.{isHash}
 use Rattle.sha256.proofs.Laws.{is-hash}
 use Rattle.itable.specs.Block.{size, kind, used, number, value, wellFormed}
 use Rattle.itable.specs.declared.Link.{Link}
-use Rattle.itable.specs.Lookup.{absent, entryIn, lastAtMost, known}
-use Rattle.itable.specs.Lookup as itable
+use Rattle.itable.specs.Lookup.{lastAtMost, known}
 use Rattle.itable.proofs.Consult.{answer-leaf, answer-none, answer-on}
+use Rattle.itable.proofs.Place.{entry-first, entry-past}
 use Rattle.lookup.specs.Internal.Step.{Searched, Consulted}
 use Rattle.lookup.specs.declared.End.the-variants.{WrongHash, Malformed, Here, Nowhere}
 use Rattle.lookup.specs.declared.Step.{Step}
@@ -25,19 +24,11 @@ use Rattle.lookup.specs.declared.Step.the-variants.{Ends, Leads}
 
 -- A leaf: slot j is the first of the u used ones with the number, or none is.
 module _ (b : List ℕ) (i : ℕ) (k : kind b ≡ 3) (j u : ℕ) (ej : j ≡ find (λ m. eqb (number b m) i) 0 (used b)) (eu : u ≡ used b) where
-  has : j < u → entryIn (number b) (value b) (used b) i ≡ itable.found (value b j)
-  unfolding entryIn
-  has l = rw (sym ej, lt-ltb j (used b) (omega arith))
-
-  has-not : u ≤ j → entryIn (number b) (value b) (used b) i ≡ absent
-  unfolding entryIn
-  has-not l = rw (sym ej, le-ltb j (used b) (omega arith))
-
   pub leaf-here : j < u → Searched b i (Ends (Here j))
-  leaf-here l = record { says = λ left d on. answer-leaf b i left (suc d) on k ∙ ap (known left (suc d)) (has l) }
+  leaf-here l = record { says = λ left d on. answer-leaf b i left (suc d) on k ∙ ap (known left (suc d)) (entry-first (number b) (value b) (used b) i j ej (omega arith)) }
 
   pub leaf-nowhere : u ≤ j → Searched b i (Ends Nowhere)
-  leaf-nowhere l = record { says = λ left d on. answer-leaf b i left (suc d) on k ∙ ap (known left (suc d)) (has-not l) }
+  leaf-nowhere l = record { says = λ left d on. answer-leaf b i left (suc d) on k ∙ ap (known left (suc d)) (entry-past (number b) (value b) (used b) i j ej (omega arith)) }
 
 -- An inner block: the slot before place n leads on.
 module _ (b : List ℕ) (i : ℕ) (k : kind b ≡ 3 → ⊥) (n : ℕ) (e : n ≡ lastAtMost (number b) i (used b)) where

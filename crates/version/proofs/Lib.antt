@@ -1,4 +1,3 @@
-pub mod Copied
 pub mod Form
 pub mod Laws
 pub mod Match

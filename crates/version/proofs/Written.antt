@@ -10,7 +10,7 @@ use lib.Seq.{take-at, drop-at, length-take-le}
 use Rattle.layout.specs.Bytes.{bytes4}
 use Rattle.layout.proofs.Bytes.{length-bytes4}
 use Rattle.protocol.specs.Version.{counts}
-use Rattle.version.proofs.Copied.{copied-over}
+use Rattle.layout.proofs.Copied.{copied-over}
 
 -- Four bytes copied over four bytes.
 pub four-copied :

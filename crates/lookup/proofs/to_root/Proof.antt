@@ -1,7 +1,7 @@
 -- The handle is read whole.
 use mathlib.Core.Path.{_∙_, ap}
+use Rattle.layout.proofs.Values.{values-whole}
 use Rattle.itable.specs.Block.{toRoot}
-use Rattle.lookup.proofs.Along.{whole-handle}
 use borrow.Author.Needs.{needs}
 use Rattle.lookup.proofs.to_root.Statement.{statement}
 use Rattle.lookup.proofs.to_root.Tie as tie
@@ -10,7 +10,7 @@ bytes32-requires : tie.Need-bytes32-requires
 bytes32-requires c κs = search needs
 
 returns : tie.Need-returns
-returns c = ap toRoot (c .bytes32 .ensures ∙ whole-handle _ (c .before .before .pre))
+returns c = ap toRoot (c .bytes32 .ensures ∙ values-whole _ 32 (c .before .before .pre))
 
 pub to-root-spec : {M : Type 1} → statement M
 to-root-spec = tie.close (tie.spec bytes32-requires returns)

@@ -6,7 +6,7 @@ use native.Mathlib.Omega.{arith}
 use lib.ListN.{replicate}
 use Rattle.protocol.specs.Version.{structure}
 use Rattle.version.specs.Version.{countIn}
-use Rattle.version.proofs.Copied.{copied-over}
+use Rattle.layout.proofs.Copied.{copied-over}
 use borrow.Author.Needs.{needs}
 use Rattle.client.proofs.next.write.Statement.{statement}
 use Rattle.client.proofs.next.write.Tie as tie
