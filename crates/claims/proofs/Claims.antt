@@ -23,6 +23,10 @@ use Rattle.itable.proofs.WrittenLeafGives.{written-leaf-gives}
 use Rattle.itable.proofs.Bounds.{bounds-kept, bound-refused, nearest-least, bound-positive}
 use Rattle.itable.proofs.NeighbourRefused.{neighbour-refused}
 use Rattle.itable.proofs.DiffersByThree.{differs-by-three}
+use Rattle.itable.proofs.ManyMeans.{many-means}
+use Rattle.itable.proofs.CountRefused.{count-refused}
+use Rattle.itable.proofs.OneQuestion.{one-question}
+use Rattle.itable.proofs.ManyAsTable.{many-as-table}
 use Rattle.itable.proofs.BlockCheckMeans.{block-check-means}
 use Rattle.itable.proofs.EntryMeans.{entry-means}
 use Rattle.itable.proofs.WrittenAnswers.{written-answers}
@@ -79,6 +83,10 @@ claims =
       otherwise-collides = otherwise-collides;
       buffer-answers = buffer-answers;
       at-most-blocks = at-most-blocks;
+      many-means = many-means;
+      count-refused = count-refused;
+      one-question = one-question;
+      many-as-table = many-as-table;
       block-check-means = block-check-means;
       choose-means = choose-means;
       chosen-is-path = chosen-is-path;

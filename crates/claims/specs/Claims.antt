@@ -21,6 +21,8 @@ use Rattle.itable.specs.LeafGives.{LeafGives, WrittenLeafGives}
 use Rattle.itable.specs.Bounds.{BoundPositive, NearestLeast, BoundsKept, BoundRefused}
 use Rattle.itable.specs.Neighbour.{NeighbourRefused}
 use Rattle.itable.specs.Before.{DiffersByThree}
+use Rattle.itable.specs.ManyMeaning.{ManyMeans, CountRefused, OneQuestion}
+use Rattle.itable.specs.ManyAsTable.{ManyAsTable}
 use Rattle.itable.specs.InodeMeaning.{BlockCheckMeans}
 use Rattle.itable.specs.Answers.{EntryMeans, AtMostBlocks, WrittenAnswers, OtherwiseCollides, BufferAnswersAsTable}
 use Rattle.cache.specs.ChooseMeaning.{ChooseMeans}
@@ -107,6 +109,15 @@ pub record Claims : Type 1 where
   pub buffer-answers : BufferAnswersAsTable
   -- A table takes at most 273 blocks.
   pub at-most-blocks : AtMostBlocks
+  -- Many lookups in one call accept exactly where all lengths fit and each lookup accepts, with its answer at its place; else the first that is
+  -- refused refuses the call.
+  pub many-means : ManyMeans
+  -- A count that no path has is its question's own refusal, in its turn.
+  pub count-refused : CountRefused
+  -- One question is answered as the lookup answers it.
+  pub one-question : OneQuestion
+  -- And with written paths, up to 64 numbers in any order are answered in one call as the table does.
+  pub many-as-table : ManyAsTable
   -- The check of a file's block accepts exactly where each condition holds, and refuses exactly for the first that does not.
   pub block-check-means : BlockCheckMeans
   -- Of a reply and a cached part, both of a length that is taken, the one is chosen that is there and has the wanted hash, the reply first; a choice

@@ -23,3 +23,8 @@ pub mod Bounds
 pub mod NeighbourRefused
 pub mod DiffersByThree
 pub mod Many
+pub mod ManySizes
+pub mod ManyMeans
+pub mod CountRefused
+pub mod OneQuestion
+pub mod ManyAsTable

@@ -5,8 +5,7 @@ use mathlib.Core.Bool.{Bool, true, false, cond}
 use mathlib.Core.List.{List, [], _∷_, _++_, append-nil, append-assoc}
 use mathlib.Core.Logic.{⊎-elim}
 use mathlib.Core.Path.{_≡_, refl, ap, _∙_}
-use native.Mathlib.Nat.{add-zero, zero-add, suc-add, eq-or-lt-of-le}
-use native.Mathlib.Numerals.{add-one}
+use native.Mathlib.Nat.{suc-add, eq-or-lt-of-le}
 use native.Mathlib.Omega.{arith}
 use lib.Dec.{ltb, eqb}
 use lib.ListN.{length, getD, take, length-append, length-drop}
@@ -42,30 +41,26 @@ pub path-at-long :
 path-at-long counts paths q h =
     length-take-le _ _ (simp length-drop (omega (arith, total-front counts q)))
 
--- Entries in a row.
-module _ (entry : ℕ → Entry) where
-  more-from : (q k : ℕ) → entriesFrom entry q (suc k) ≡ entriesFrom entry q k ++ entryBytes (entry (q + k))
-  unfolding entriesFrom
-  more-from q zero = rw (add-zero q, append-nil (entryBytes (entry q)))
-  more-from q (suc k) =
-      let e : suc q + k ≡ q + suc k = omega arith in
-      ap (entryBytes (entry q) ++_) (more-from (suc q) k) ∙ rw (e, append-assoc)
+-- Entries in a row: those after the first are a row too.
+pub entries-behind : (entry : ℕ → Entry) (q k : ℕ) → entriesFrom entry (suc q) k ≡ entriesFrom (λ j. entry (suc j)) q k
+unfolding entriesFrom
+entries-behind entry q zero = refl
+entries-behind entry q (suc k) = ap (entryBytes (entry (suc q)) ++_) (entries-behind entry (suc q) k)
 
-  pub entries-more : (k : ℕ) → entriesFrom entry 0 (k + 1) ≡ entriesFrom entry 0 k ++ entryBytes (entry k)
-  entries-more k = rw add-one (more-from 0 k ∙ rw zero-add)
+pub entries-more : (entry : ℕ → Entry) (k : ℕ) → entriesFrom entry 0 (k + 1) ≡ entriesFrom entry 0 k ++ entryBytes (entry k)
+unfolding entriesFrom
+entries-more entry zero = append-nil (entryBytes (entry 0))
+entries-more entry (suc k) =
+    rw (suc-add k 1, entries-behind entry 0 (k + 1), entries-behind entry 0 k, entries-more (λ j. entry (suc j)) k, append-assoc)
 
-  length-from :
-      (q k : ℕ) → ((j : ℕ) → q ≤ j → j < q + k → length (entryBytes (entry j)) ≡ entrySize) →
-      length (entriesFrom entry q k) ≡ entrySize * k
-  unfolding entriesFrom
-  length-from q zero h = refl
-  length-from q (suc k) h =
-      let l = length-from (suc q) k (λ j a b. h j (omega arith) (omega arith)) in
-      simp (length-append, h q (omega arith) (omega arith), l) (omega arith)
-
-  pub entries-length :
-      (k : ℕ) → ((j : ℕ) → j < k → length (entryBytes (entry j)) ≡ entrySize) → length (entriesFrom entry 0 k) ≡ entrySize * k
-  entries-length k h = length-from 0 k (λ j a b. h j (omega arith))
+pub entries-length :
+    (entry : ℕ → Entry) (k : ℕ) → ((j : ℕ) → j < k → length (entryBytes (entry j)) ≡ entrySize) →
+    length (entriesFrom entry 0 k) ≡ entrySize * k
+unfolding entriesFrom
+entries-length entry zero h = refl
+entries-length entry (suc k) h =
+    let l = entries-length (λ j. entry (suc j)) k (λ j m. h (suc j) (omega arith)) in
+    rw (entries-behind entry 0 k) (simp (length-append, h 0 (omega arith), l) (omega arith))
 
 -- The answers.
 module _ (ask : ℕ → Answer Entry) where

@@ -3,13 +3,13 @@ use Prim.Native.Nat.{ℕ, _*_, _≤_, _<_}
 use mathlib.Core.List.{List, [], _∷_}
 use mathlib.Core.Logic.{_⊎_, _↔_}
 use mathlib.Core.Path.{_≡_}
-use lib.ListN.{length, getD}
+use lib.ListN.{length, getD, replicate}
 use Rattle.layout.specs.Bytes.{part, parts}
 use Rattle.search.specs.First.{First}
-use Rattle.refusal.specs.Answer.{Answer, accepted, refused, andThen}
+use Rattle.refusal.specs.Answer.{Answer, accepted, refused}
 use Rattle.itable.specs.Block.{size}
-use Rattle.itable.specs.Lookup.{Entry, lookup}
-use Rattle.itable.specs.Many.{total, single, atQuestion, entrySize, entryBytes, many}
+use Rattle.itable.specs.Lookup.{Entry, found, absent, lookup}
+use Rattle.itable.specs.Many.{total, single, entrySize, entryBytes, many}
 
 -- 2, "for the whole call".
 pub record ManySizes (handle numbers counts paths : List ℕ) (room : ℕ) : Type 0 where
@@ -52,9 +52,14 @@ CountRefused =
     ((j : ℕ) → j < q → IsAccepted (single handle numbers counts paths j)) → (getD counts q 0 ≡ 0) ⊎ (3 < getD counts q 0) →
     many handle numbers counts paths room ≡ refused 2 q 0
 
--- One question is answered as the lookup answers it: found, absent, or refused, with the position second, behind the question's, 0.
-abbrev pub OneQuestion : Type 0
-OneQuestion =
-    (handle : List ℕ) (i : ℕ) (path : List ℕ) →
-    many handle (i ∷ []) (parts size path ∷ []) path entrySize ≡
-    andThen (atQuestion 0 (lookup handle i path)) (λ e. accepted (entryBytes e))
+-- One question, with all the bytes as its path.
+abbrev pub asked : List ℕ → ℕ → List ℕ → Answer (List ℕ)
+asked handle i path = many handle (i ∷ []) (parts size path ∷ []) path entrySize
+
+-- It is answered as the lookup answers it: 1 and the handle where the file is found, a handle of zeros too; zeros where it is absent; and refused as
+-- the lookup is, with the question's index, 0, first and the lookup's position second.
+pub record OneQuestion : Type 0 where
+  pub is-found : (handle : List ℕ) (i : ℕ) (path h : List ℕ) → lookup handle i path ≡ accepted (found h) → asked handle i path ≡ accepted (1 ∷ h)
+  pub is-absent : (handle : List ℕ) (i : ℕ) (path : List ℕ) → lookup handle i path ≡ accepted absent → asked handle i path ≡ accepted (replicate 33 0)
+  pub is-refused :
+      (handle : List ℕ) (i : ℕ) (path : List ℕ) (n p q : ℕ) → lookup handle i path ≡ refused n p q → asked handle i path ≡ refused n 0 p
