@@ -1,4 +1,4 @@
--- The answers about an i-table and a file's blocks are read back: each position is that of one of 4,096 files or 3 blocks, and no result is
+-- The answers about an i-table and a file's blocks are read back: each position is that of one of 4,096 files, 64 questions or 3 blocks, and no result is
 -- larger than a file.
 use Prim.Native.Nat.{ℕ, _+_, _*_, _^_, _≤_, _<_}
 use mathlib.Core.List.{List, [], _∷_}
@@ -6,7 +6,7 @@ use mathlib.Core.Path.{_≡_, refl}
 use native.Mathlib.Decide.{decLe}
 use native.Mathlib.Omega.{arith}
 use lib.Dec.{leb, eqb}
-use lib.ListN.{length}
+use lib.ListN.{length, getD}
 use borrow.Author.Tests.{lt-leb}
 use Rattle.layout.specs.Bytes.{parts}
 use Rattle.refusal.specs.Answer.{accepted}
@@ -17,13 +17,16 @@ use Rattle.itable.specs.Table.{blocks}
 use Rattle.itable.specs.Write.{numberAbove, writeSteps, blocksGiven}
 use Rattle.itable.specs.Lookup.{Entry, found, absent, lookup}
 use Rattle.itable.specs.LookupMeaning.{Fails, missing, wrong-hash, malformed, left-over, later, Why, lengths, along}
+use Rattle.itable.specs.Many.{pathAt, many}
+use Rattle.itable.specs.ManyMeaning.{WhyMany, lengths as unfit, question}
 use Rattle.itable.specs.Inode.{Span, fileLength, blockCheck}
 use Rattle.itable.specs.InodeMeaning as files
 use Rattle.itable.proofs.AtMostBlocks.{at-most-blocks}
 use Rattle.itable.proofs.LookupMeans.{lookup-means}
+use Rattle.itable.proofs.ManyMeans.{many-means}
 use Rattle.itable.proofs.BlockCheckMeans.{block-check-means}
 use Rattle.sundr.specs.Lookup.{lookedUp, isFound}
-use Rattle.sundr.specs.Read.{IsRead}
+use Rattle.sundr.specs.Read.{IsRead, IsReadPlain}
 use Rattle.sundr.proofs.Fits.{Fits, small, small-fits, each-fits, result-read, refusal-read, answer-read, in-order-read}
 
 pub write-read : (nums handles : List ℕ) (room : ℕ) → IsRead (λ n. n) (λ n. 0) (blocksGiven nums handles room)
@@ -69,6 +72,21 @@ lookup-read handle i path room =
     (λ t.
     answer-read isFound (λ e. 0) (lookup handle i path) (λ e h. found-fits e)
     (λ n p q h. why-fits handle i path n p q (lookup-means handle i path .1 n p q .0 h)))
+
+-- Many lookups are refused with a question's index, below 64, and the position of its lookup.
+module _ (handle numbers counts paths : List ℕ) (room : ℕ) where
+  many-fits : (n q p : ℕ) → WhyMany handle numbers counts paths room n q p → Fits n q p
+  many-fits n q p (unfit f) = small 2 0 refl
+  many-fits n q p (question {r = r} s first e) =
+      let i : ℕ = getD numbers q 0 in
+      let path : List ℕ = pathAt counts paths q in
+      let f = why-fits handle i path n p r (lookup-means handle i path .1 n p r .0 e) in
+      (f .0, f .1, omega (arith, s .at-most, first .within), omega (arith, f .2))
+
+  pub many-read : IsReadPlain (many handle numbers counts paths room)
+  many-read =
+      answer-read (λ a. 0) (λ a. 0) (many handle numbers counts paths room) (λ a e. (omega arith, omega arith))
+      (λ n q p e. many-fits n q p (many-means handle numbers counts paths room .1 n q p .0 e))
 
 -- A block that is accepted lies in its file, of 131,072 bytes at most.
 module _ (handle inode : List ℕ) (k : ℕ) (block : List ℕ) where

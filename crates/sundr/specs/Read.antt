@@ -11,6 +11,7 @@ use Rattle.protocol.specs.Check.{check}
 use Rattle.protocol.specs.Server.{commit}
 use Rattle.protocol.specs.declared.Server.{Server}
 use Rattle.itable.specs.Write.{blocksGiven}
+use Rattle.itable.specs.Many.{many}
 use Rattle.itable.specs.Inode.{Span, blockCheck}
 use Rattle.cache.specs.Choose.{choose}
 use Rattle.sundr.specs.Compare.{compared, standingNumber}
@@ -61,6 +62,7 @@ pub record AnswersRead : Type 0 where
   pub commit : (server : Server) (x : List ℕ) (mark : ℕ) → IsReadPlain (commit server x mark)
   pub write : (numbers : List ℕ) (handles : List ℕ) (room : ℕ) → IsRead (λ n. n) (λ n. 0) (blocksGiven numbers handles room)
   pub lookup : (handle : List ℕ) (number : ℕ) (path : List ℕ) (room : ℕ) → IsRead isFound (λ e. 0) (lookedUp handle number path room)
+  pub many : (handle numbers counts paths : List ℕ) (room : ℕ) → IsReadPlain (many handle numbers counts paths room)
   pub block :
       (handle inode : List ℕ) (index : ℕ) (block : List ℕ) →
       IsRead (λ (a : Span). a .offset) (λ a. a .size) (blockCheck handle inode index block)

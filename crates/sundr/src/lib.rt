@@ -7,6 +7,7 @@ mod choose;
 mod compare;
 mod file;
 mod hash;
+mod questions;
 mod server_bytes;
 mod server_list;
 mod table;
