@@ -25,15 +25,16 @@
  * not altered one lent byte.
  *
  * Stack. The bytes that a call takes, with what it takes to call it, as make bench measures them
- * (x86-64, accepted, with the most users; what is refused was not seen to take more). Every call
- * is tested on a stack of 4,096 bytes. They are measured, not proved, so leave some to spare: a
- * memcpy() that is bound at its first call, say, takes more once (3,432 bytes were seen).
+ * (x86-64, accepted, with the most users or questions; what is refused was not seen to take more).
+ * Every call is tested on a stack of 4,096 bytes. They are measured, not proved, so leave some to
+ * spare: a memcpy() that is bound at its first call, say, takes more once (3,432 bytes were seen).
  *
- *     sundr_sha256             560        sundr_server_commit      612
- *     sundr_compare              8        sundr_table_write      1,328
- *     sundr_check            2,244        sundr_lookup             944
+ *     sundr_sha256             560        sundr_table_write      1,328
+ *     sundr_compare              8        sundr_lookup             880
+ *     sundr_check            2,244        sundr_lookup_many      1,216
  *     sundr_server_make_at      24        sundr_block_check        672
  *     sundr_server_list_at   1,800        sundr_block_choose       656
+ *     sundr_server_commit      612
  */
 #ifndef SUNDR_H
 #define SUNDR_H
@@ -46,9 +47,9 @@ extern "C" {
 #endif
 
 /* The version of the library that this header belongs to. */
-#define SUNDR_VERSION "0.7.0"
+#define SUNDR_VERSION "0.8.0"
 #define SUNDR_VERSION_MAJOR 0
-#define SUNDR_VERSION_MINOR 7
+#define SUNDR_VERSION_MINOR 8
 #define SUNDR_VERSION_PATCH 0
 
 /* The numbers in bits 0 to 7 of an answer. */
@@ -390,6 +391,55 @@ uint64_t sundr_table_write(const uint64_t *numbers, size_t count,
 uint64_t sundr_lookup(const uint8_t *handle, size_t handle_len, uint64_t number,
 	const uint8_t *path, size_t path_len,
 	uint8_t *out, size_t out_len);
+
+/* The most questions of a sundr_lookup_many(), and the bytes of the answer to each. */
+#define SUNDR_MANY_MAX_QUESTIONS 64
+#define SUNDR_ENTRY_LEN 33
+
+/*
+ * sundr_lookup_many: the handles of up to 64 files of one i-table, each along a path of its own:
+ * the answers of as many calls of sundr_lookup(), or none if one of these would be refused.
+ *
+ * Reads the i-handle; for each question q, from 0, its i-number numbers[q] and the number of blocks
+ * of its path, counts[q]; and the paths end to end, in the order of the questions, each with the
+ * root first. Questions may come in any order, and twice. Accepted: the answer to each question q
+ * is in the 33 bytes from out[33 * q] on: the byte 1 and the file's handle, or all 0 where the path
+ * shows no such file. Both results are 0. A handle may be all 0 too; the byte before it tells, and
+ * sundr_found() reads it. No questions, with no paths and no room for answers, are accepted.
+ *
+ * A block that is, byte for byte, the last one read at its place in a path (root, second, third) in
+ * this call is not hashed again: it is best to ask one after the other what has blocks in common.
+ * Each question is judged as if it were asked alone.
+ *
+ * Refused, with out as it was: nothing is written before the last question is judged. First tried,
+ * for the whole call:
+ *   SUNDR_LENGTH        handle_len is not 32, numbers_len is not counts_len or is above 64,
+ *                       paths_len is not 642 times the sum of the counts, or out_len is not
+ *                       33 * numbers_len.
+ * Then the questions in their order. The first that sundr_lookup() would refuse refuses the call;
+ * first: the question; second: what is first there, a place in the question's own path:
+ *   SUNDR_LENGTH        the question's count is 0 or above 3; at question 0 both positions are 0,
+ *                       as for the whole call.
+ *   SUNDR_WRONG_HASH    second: the block.
+ *   SUNDR_MALFORMED     second: the block.
+ *   SUNDR_PATH_LENGTH   second: the number of blocks that were read.
+ */
+uint64_t sundr_lookup_many(const uint8_t *handle, size_t handle_len,
+	const uint64_t *numbers, size_t numbers_len,
+	const uint8_t *counts, size_t counts_len,
+	const uint8_t *paths, size_t paths_len,
+	uint8_t *out, size_t out_len);
+
+/*
+ * The file handle that sundr_lookup_many() found for a question, SUNDR_HANDLE_LEN bytes where they
+ * lie in its out; NULL if there is no such file. The call was accepted, and had that question.
+ */
+static inline const uint8_t *sundr_found(const uint8_t *out, size_t question)
+{
+	const uint8_t *entry = out + SUNDR_ENTRY_LEN * question;
+
+	return entry[0] == 1 ? entry + 1 : NULL;
+}
 
 /* The bytes of an inode, the longest file, and the bytes of each of its blocks but the last. */
 #define SUNDR_INODE_LEN 517

@@ -1,113 +1,20 @@
 /*
  * Every call of include/sundr.h, accepted and refused, for stacks to be measured by: stack.c makes them on a small one,
- * ../bench/depths.c on a painted one. All that a call is lent lies in static memory, so that the stack is the call's
- * alone. A refusal is by the test that is tried last, or after the last hash; sundr_block_choose() has one before its
- * first hash too, and sundr_compare() has none. A case may be made any number of times, and its answer is the same.
+ * ../bench/depths.c on a painted one. A refusal is by the test that is tried last, or after the last hash;
+ * sundr_lookup_many() and sundr_block_choose() have one before their first hash too, and sundr_compare() has none. A case
+ * may be made any number of times, and its answer is the same.
  */
 #ifndef STACK_CASES_H
 #define STACK_CASES_H
 
-#include <string.h>
-
-#include "bytes.h"
+#include "stack_lent.h"
 #include "sundr.h"
-
-/* What is hashed: byte i is i mod 251, and there is one more than are taken. */
-static uint8_t message[SUNDR_SHA256_MAX_MESSAGE + 1];
-
-/* A list of sixteen records, and the same where user 15's does not count user 14's operation: the two stand apart. */
-static uint8_t list[16 * 98], forked[16 * 98], marks[16], handle[32];
-
-/* A server that holds the list; user 15's next record, and one that does not count user 14's operation. */
-static struct sundr_server server;
-static uint8_t record[98], apart[98];
-
-/* The counts of that next record, of the one that lacks an operation, and of user 15's in the list. */
-static uint32_t next_counts[16], apart_counts[16], listed_counts[16];
-
-/* The files of a table, of which file i has the number 5 * i + 3; the path to the last, and one with a bit altered. */
-static uint64_t numbers[4096];
-static uint8_t handles[4096 * 32], path[3 * 642], altered[3 * 642], i_handle[32];
-
-/* A file of one block. */
-static uint8_t inode[517], block[8192], file_handle[32];
-
-/* All that the calls write. The record is committed to a server of its own. */
-static struct written {
-	uint8_t hash[5][32], next[98], made[1569], listed[16 * 98], blocks[273 * 642], found[32];
-	struct sundr_server server;
-} written;
 
 /* What the last case answered. */
 static uint64_t answer;
 
 /* The answer of this number, 0 if accepted, and these two results or positions. */
 #define ANSWER(number, first, second) ((uint64_t)(second) << 32 | (uint64_t)(first) << 8 | (number))
-
-static void fill_lists(void)
-{
-	size_t v, w;
-
-	for (v = 0; v < 16; v++) {
-		uint8_t *version = list + 98 * v;
-
-		version[0] = 1;
-		version[1] = (uint8_t)v;
-		for (w = 0; w <= v; w++)
-			put(version + 34 + 4 * w, 1);
-	}
-	memset(marks, 1, sizeof marks);
-	memcpy(forked, list, sizeof forked);
-	put(forked + 98 * 15 + 34 + 4 * 14, 0);
-	server.users = 16;
-	memcpy(server.records, list, sizeof list);
-	memcpy(record, list + 98 * 15, sizeof record);
-	put(record + 34 + 4 * 15, 2);
-	memcpy(apart, record, sizeof apart);
-	put(apart + 34 + 4 * 14, 0);
-	sundr_counts(record, next_counts);
-	sundr_counts(apart, apart_counts);
-	sundr_counts(list + 98 * 15, listed_counts);
-}
-
-static void fill_table(void)
-{
-	size_t i;
-
-	for (i = 0; i < 4096; i++) {
-		numbers[i] = 5 * i + 3;
-		memset(handles + 32 * i, (int)(i % 251), 32);
-	}
-	sundr_table_write(numbers, 4096, handles, sizeof handles, written.blocks, sizeof written.blocks);
-	memcpy(path, written.blocks + 642 * 272, 642);
-	memcpy(path + 642, written.blocks + 642 * 271, 642);
-	memcpy(path + 642 * 2, written.blocks + 642 * 255, 642);
-	sundr_sha256(path, 642, i_handle, sizeof i_handle);
-	memcpy(altered, path, sizeof altered);
-	altered[sizeof altered - 1] ^= 1;
-}
-
-static void fill_file(void)
-{
-	inode[0] = 6;
-	put(inode + 1, sizeof block);
-	sundr_sha256(block, sizeof block, inode + 5, 32);
-	sundr_sha256(inode, sizeof inode, file_handle, sizeof file_handle);
-}
-
-/* Makes ready for all the cases: all that they write is as if none had been made. */
-static void prepare_cases(void)
-{
-	size_t i;
-
-	for (i = 0; i < sizeof message; i++)
-		message[i] = (uint8_t)(i % 251);
-	fill_lists();
-	fill_table();
-	fill_file();
-	memset(&written, 0x5a, sizeof written);
-	written.server = server;
-}
 
 /* The answer is kept, and so the function is called, not jumped to: the stack is counted from a call. */
 static void hash_0(void)
@@ -227,6 +134,30 @@ static void look_up_altered(void)
 		written.found, sizeof written.found);
 }
 
+static void look_up_64(void)
+{
+	answer = sundr_lookup_many(i_handle, sizeof i_handle, asked, 64, counts, 64, paths, 64 * 3 * 642,
+		written.entries, 64 * 33);
+}
+
+static void look_up_64_absent(void)
+{
+	answer = sundr_lookup_many(i_handle, sizeof i_handle, absent, 64, counts, 64, paths, 64 * 3 * 642,
+		written.no_entries, 64 * 33);
+}
+
+static void look_up_64_altered(void)
+{
+	answer = sundr_lookup_many(i_handle, sizeof i_handle, asked, 64, counts, 64, altered_paths, sizeof altered_paths,
+		written.entries, 64 * 33);
+}
+
+static void look_up_65(void)
+{
+	answer = sundr_lookup_many(i_handle, sizeof i_handle, asked, 65, counts, 65, paths, sizeof paths,
+		written.entries, 65 * 33);
+}
+
 static void check_block(void)
 {
 	answer = sundr_block_check(file_handle, sizeof file_handle, inode, sizeof inode, 0, block, sizeof block);
@@ -286,6 +217,11 @@ static const struct {
 	{"sundr_lookup", "three blocks, found", look_up, ANSWER(SUNDR_ACCEPTED, 1, 0)},
 	{"sundr_lookup", "three blocks, absent", look_up_absent, ANSWER(SUNDR_ACCEPTED, 0, 0)},
 	{"sundr_lookup", "three blocks, a bit of the last altered", look_up_altered, ANSWER(SUNDR_WRONG_HASH, 2, 0)},
+	{"sundr_lookup_many", "64 questions, three blocks each, found", look_up_64, ANSWER(SUNDR_ACCEPTED, 0, 0)},
+	{"sundr_lookup_many", "64 questions, three blocks each, absent", look_up_64_absent, ANSWER(SUNDR_ACCEPTED, 0, 0)},
+	{"sundr_lookup_many", "64 questions, a bit of the last block altered", look_up_64_altered,
+		ANSWER(SUNDR_WRONG_HASH, 63, 2)},
+	{"sundr_lookup_many", "65 questions", look_up_65, ANSWER(SUNDR_LENGTH, 0, 0)},
 	{"sundr_block_check", "8,192 bytes", check_block, ANSWER(SUNDR_ACCEPTED, 0, 8192)},
 	{"sundr_block_check", "8,192 other bytes", check_other_block, ANSWER(SUNDR_WRONG_HASH, 1, 0)},
 	{"sundr_block_choose", "8,192 bytes, the reply", choose_reply, ANSWER(SUNDR_ACCEPTED, 0, 8192)},

@@ -43,6 +43,18 @@ extern "C" {
         out: *mut u8,
         out_len: usize,
     ) -> u64;
+    pub fn sundr_lookup_many(
+        handle: *const u8,
+        handle_len: usize,
+        numbers: *const u64,
+        numbers_len: usize,
+        counts: *const u8,
+        counts_len: usize,
+        paths: *const u8,
+        paths_len: usize,
+        out: *mut u8,
+        out_len: usize,
+    ) -> u64;
     pub fn sundr_block_check(
         handle: *const u8,
         handle_len: usize,

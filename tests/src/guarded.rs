@@ -89,8 +89,11 @@ impl Guarded {
             64..128 => (0, 0, GUARD),
             _ => (pages.len - GUARD - len, GUARD, 0),
         };
-        let mut before: Vec<u8> = (0..start + len + behind).map(|i| (i as u8).wrapping_mul(73) ^ 0xa5).collect();
-        before[start..start + len].copy_from_slice(content);
+        let guard = |i: usize| (i as u8).wrapping_mul(73) ^ 0xa5;
+        let mut before = Vec::with_capacity(start + len + behind);
+        before.extend((0..start).map(guard));
+        before.extend_from_slice(content);
+        before.extend((start + len..start + len + behind).map(guard));
         unsafe { from_raw_parts_mut(pages.first.add(at), before.len()) }.copy_from_slice(&before);
         Guarded { pages, at, before, start, len }
     }

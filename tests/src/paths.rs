@@ -32,11 +32,11 @@ impl Draft {
         block
     }
 
-    fn used(&self) -> usize {
+    pub fn used(&self) -> usize {
         usize::from(self.0[1]).min(SLOTS)
     }
 
-    fn number(&self, slot: usize) -> u64 {
+    pub fn number(&self, slot: usize) -> u64 {
         u64::from_be_bytes(self.0[2 + 40 * slot..][..8].try_into().unwrap())
     }
 
@@ -46,11 +46,11 @@ impl Draft {
         (0..self.used()).map(|slot| (self.number(slot), value(slot))).collect()
     }
 
-    fn set_number(&mut self, slot: usize, number: u64) {
+    pub fn set_number(&mut self, slot: usize, number: u64) {
         self.0[2 + 40 * slot..][..8].copy_from_slice(&number.to_be_bytes());
     }
 
-    fn set_value(&mut self, slot: usize, value: [u8; 32]) {
+    pub fn set_value(&mut self, slot: usize, value: [u8; 32]) {
         self.0[10 + 40 * slot..][..32].copy_from_slice(&value);
     }
 
@@ -66,7 +66,7 @@ impl Draft {
     }
 
     /// One slot more with this number, or, where all are used, this number in the last.
-    fn put(&mut self, number: u64) {
+    pub fn put(&mut self, number: u64) {
         let slot = self.used().min(SLOTS - 1);
         self.0[1] = slot as u8 + 1;
         self.set_number(slot, number);

@@ -16,7 +16,7 @@ pub struct Table {
     pub files: Vec<u64>,
     pub handles: Vec<u8>,
     blocks: Vec<u8>,
-    root: Vec<u8>,
+    pub root: Vec<u8>,
 }
 
 impl Table {

@@ -1,7 +1,7 @@
 //! The i-table (01's table of files): the layout of its blocks, its writer, and the lookup along
 //! one path.
 
-use super::sha256::digest;
+use super::sha256::{digest, Remembered};
 use super::Refusal;
 
 pub const BLOCK: usize = 642;
@@ -91,15 +91,27 @@ pub type Found = Result<Option<[u8; 32]>, Refusal>;
 
 /// The lookup of 01 with 02's request c.
 pub fn lookup(handle: &[u8], number: u64, path: &[u8], out_len: usize) -> Found {
-    walk(handle, number, path, out_len, true)
+    walk(handle, number, path, out_len, true, digest)
+}
+
+/// The same, with hashes that are remembered from one lookup to the next.
+pub fn lookup_again(handle: &[u8], number: u64, path: &[u8], out_len: usize, hashes: &mut Remembered) -> Found {
+    walk(handle, number, path, out_len, true, |block| hashes.digest(block))
 }
 
 /// The lookup of 01 alone: but for its first number, nothing ties a child's numbers to its parent.
 pub fn lookup_before(handle: &[u8], number: u64, path: &[u8], out_len: usize) -> Found {
-    walk(handle, number, path, out_len, false)
+    walk(handle, number, path, out_len, false, digest)
 }
 
-fn walk(handle: &[u8], number: u64, path: &[u8], out_len: usize, bounded: bool) -> Found {
+fn walk(
+    handle: &[u8],
+    number: u64,
+    path: &[u8],
+    out_len: usize,
+    bounded: bool,
+    mut hash_of: impl FnMut(&[u8]) -> [u8; 32],
+) -> Found {
     let blocks: Vec<&[u8]> = path.chunks(BLOCK).collect();
     if handle.len() != 32 || out_len != 32 || path.len() % BLOCK != 0 || !(1..=3).contains(&blocks.len()) {
         return Err(Refusal(2, 0, 0));
@@ -114,7 +126,7 @@ fn walk(handle: &[u8], number: u64, path: &[u8], out_len: usize, bounded: bool) 
         let Some(bytes) = blocks.get(depth) else {
             return Err(Refusal(9, at, 0));
         };
-        if digest(bytes) != hash {
+        if hash_of(bytes) != hash {
             return Err(Refusal(8, at, 0));
         }
         let block = Block::read(bytes)

@@ -6,6 +6,7 @@ pub mod choose;
 pub mod inode;
 pub mod input;
 pub mod itable;
+pub mod many;
 pub mod server;
 pub mod sha256;
 pub mod standing;

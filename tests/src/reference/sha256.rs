@@ -1,6 +1,8 @@
 //! SHA-256, from FIPS 180-4. The constants are computed from their definitions, so that they
 //! share no typing error with a table.
 
+use std::collections::HashMap;
+
 /// 4.2.2: the first 32 bits of the fractional parts of the cube roots of the first 64 primes.
 const K: [u32; 64] = fractions_of_roots(3);
 
@@ -91,4 +93,19 @@ pub fn digest(message: &[u8]) -> [u8; 32] {
         bytes[4 * i..4 * i + 4].copy_from_slice(&word.to_be_bytes());
     }
     bytes
+}
+
+/// Hashes with their messages: what was hashed once is not hashed again.
+#[derive(Default)]
+pub struct Remembered(HashMap<Vec<u8>, [u8; 32]>);
+
+impl Remembered {
+    pub fn digest(&mut self, message: &[u8]) -> [u8; 32] {
+        if let Some(hash) = self.0.get(message) {
+            return *hash;
+        }
+        let hash = digest(message);
+        self.0.insert(message.to_vec(), hash);
+        hash
+    }
 }

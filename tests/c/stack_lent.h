@@ -1,0 +1,135 @@
+/*
+ * What the cases of stack_cases.h are lent, and what they write. All of it lies in static memory, so that the stack is the
+ * call's alone.
+ */
+#ifndef STACK_LENT_H
+#define STACK_LENT_H
+
+#include <string.h>
+
+#include "bytes.h"
+#include "sundr.h"
+
+/* What is hashed: byte i is i mod 251, and there is one more than are taken. */
+static uint8_t message[SUNDR_SHA256_MAX_MESSAGE + 1];
+
+/* A list of sixteen records, and the same where user 15's does not count user 14's operation: the two stand apart. */
+static uint8_t list[16 * 98], forked[16 * 98], marks[16], handle[32];
+
+/* A server that holds the list; user 15's next record, and one that does not count user 14's operation. */
+static struct sundr_server server;
+static uint8_t record[98], apart[98];
+
+/* The counts of that next record, of the one that lacks an operation, and of user 15's in the list. */
+static uint32_t next_counts[16], apart_counts[16], listed_counts[16];
+
+/* The files of a table, of which file i has the number 5 * i + 3; the path to the last, and one with a bit altered. */
+static uint64_t numbers[4096];
+static uint8_t handles[4096 * 32], path[3 * 642], altered[3 * 642], i_handle[32];
+
+/*
+ * Sixty-four questions to that table, of which question q is for file 64 * q + 63, in a leaf that no other has, and the
+ * first of them once more; numbers that no file has, in the same leaves; and the sixty-four paths with a bit of the last
+ * block altered.
+ */
+static uint64_t asked[65], absent[64];
+static uint8_t counts[65], paths[65 * 3 * 642], altered_paths[64 * 3 * 642];
+
+/* A file of one block. */
+static uint8_t inode[517], block[8192], file_handle[32];
+
+/* All that the calls write. The record is committed to a server of its own. */
+static struct written {
+	uint8_t hash[5][32], next[98], made[1569], listed[16 * 98], blocks[273 * 642], found[32];
+	uint8_t entries[65 * 33], no_entries[64 * 33];
+	struct sundr_server server;
+} written;
+
+static void fill_lists(void)
+{
+	size_t v, w;
+
+	for (v = 0; v < 16; v++) {
+		uint8_t *version = list + 98 * v;
+
+		version[0] = 1;
+		version[1] = (uint8_t)v;
+		for (w = 0; w <= v; w++)
+			put(version + 34 + 4 * w, 1);
+	}
+	memset(marks, 1, sizeof marks);
+	memcpy(forked, list, sizeof forked);
+	put(forked + 98 * 15 + 34 + 4 * 14, 0);
+	server.users = 16;
+	memcpy(server.records, list, sizeof list);
+	memcpy(record, list + 98 * 15, sizeof record);
+	put(record + 34 + 4 * 15, 2);
+	memcpy(apart, record, sizeof apart);
+	put(apart + 34 + 4 * 14, 0);
+	sundr_counts(record, next_counts);
+	sundr_counts(apart, apart_counts);
+	sundr_counts(list + 98 * 15, listed_counts);
+}
+
+static void fill_table(void)
+{
+	size_t i;
+
+	for (i = 0; i < 4096; i++) {
+		numbers[i] = 5 * i + 3;
+		memset(handles + 32 * i, (int)(i % 251), 32);
+	}
+	sundr_table_write(numbers, 4096, handles, sizeof handles, written.blocks, sizeof written.blocks);
+	memcpy(path, written.blocks + 642 * 272, 642);
+	memcpy(path + 642, written.blocks + 642 * 271, 642);
+	memcpy(path + 642 * 2, written.blocks + 642 * 255, 642);
+	sundr_sha256(path, 642, i_handle, sizeof i_handle);
+	memcpy(altered, path, sizeof altered);
+	altered[sizeof altered - 1] ^= 1;
+}
+
+/* After the table: its blocks are where they are written. */
+static void fill_questions(void)
+{
+	size_t q;
+
+	for (q = 0; q < 65; q++) {
+		size_t file = (64 * q + 63) % 4096;
+		uint8_t *to = paths + 3 * 642 * q;
+
+		asked[q] = numbers[file];
+		counts[q] = 3;
+		memcpy(to, written.blocks + 642 * 272, 642);
+		memcpy(to + 642, written.blocks + 642 * (256 + file / 256), 642);
+		memcpy(to + 642 * 2, written.blocks + 642 * (file / 16), 642);
+	}
+	for (q = 0; q < 64; q++)
+		absent[q] = asked[q] + 1;
+	memcpy(altered_paths, paths, sizeof altered_paths);
+	altered_paths[sizeof altered_paths - 1] ^= 1;
+}
+
+static void fill_file(void)
+{
+	inode[0] = 6;
+	put(inode + 1, sizeof block);
+	sundr_sha256(block, sizeof block, inode + 5, 32);
+	sundr_sha256(inode, sizeof inode, file_handle, sizeof file_handle);
+}
+
+/* Makes ready for all the cases: all that they write is as if none had been made. */
+static void prepare_cases(void)
+{
+	size_t i;
+
+	for (i = 0; i < sizeof message; i++)
+		message[i] = (uint8_t)(i % 251);
+	fill_lists();
+	fill_table();
+	fill_questions();
+	fill_file();
+	memset(&written, 0x5a, sizeof written);
+	written.server = server;
+}
+
+#endif
