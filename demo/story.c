@@ -215,7 +215,7 @@ static void fetch(struct client *desk, struct sundr_server *server, const char *
 
 static void legend(void)
 {
-	tell("\nSUNDR: files on a server that nobody has to trust. A story in eight scenes.\n");
+	tell("\nSUNDR: files on a server that nobody has to trust. A story in nine scenes.\n");
 	tell("  user 0, the maintainer     keeps a driver tree on the server: %d files, of which file %d is",
 		FILES, CHANNEL_TABLE);
 	tell("                             the channel table, the radio channels that a board may use");
@@ -492,6 +492,82 @@ static void from_the_cache(struct client *maintainer, struct client *desk, struc
 	tell_refusal(answer);
 }
 
+/* The files that a build needs, their paths end to end, and what the lookup along each path answers. */
+enum { NEEDED = 60, FIRST_NEEDED = 4200, NOT_THERE = 5000 };
+
+struct needed {
+	uint64_t numbers[NEEDED];
+	uint8_t counts[NEEDED];
+	uint8_t paths[NEEDED * SUNDR_PATH_MAX_BLOCKS * SUNDR_TABLE_BLOCK_LEN];
+	size_t paths_len;
+	uint8_t due[NEEDED * SUNDR_ENTRY_LEN];
+};
+
+static void ask_for(const uint8_t *i_handle, uint64_t number, struct needed *needed, int q)
+{
+	struct reply reply = ask_server(i_handle, number);
+	uint8_t *entry = needed->due + SUNDR_ENTRY_LEN * q;
+	uint64_t answer = sundr_lookup(i_handle, SUNDR_HANDLE_LEN, number, reply.path, reply.path_len,
+		entry + 1, SUNDR_HANDLE_LEN);
+
+	must_accept(answer, "a single lookup");
+	entry[0] = (uint8_t)sundr_first(answer);
+	needed->numbers[q] = number;
+	needed->counts[q] = (uint8_t)(reply.path_len / SUNDR_TABLE_BLOCK_LEN);
+	memcpy(needed->paths + needed->paths_len, reply.path, reply.path_len);
+	needed->paths_len += reply.path_len;
+}
+
+static uint64_t look_up_all(const uint8_t *i_handle, const struct needed *needed, uint8_t *answers)
+{
+	return sundr_lookup_many(i_handle, SUNDR_HANDLE_LEN, needed->numbers, NEEDED, needed->counts, NEEDED,
+		needed->paths, needed->paths_len, answers, NEEDED * SUNDR_ENTRY_LEN);
+}
+
+static void tell_entry(const struct needed *needed, int q, const uint8_t *answers)
+{
+	const uint8_t *entry = answers + SUNDR_ENTRY_LEN * q;
+	char handle[9];
+
+	hex(entry + 1, handle);
+	tell("  %-11d%u   %s", q, (unsigned)needed->numbers[q], entry[0] == 1 ? handle : "no such file");
+}
+
+static void a_builds_start(struct client *desk, struct sundr_server *server, const struct sundr_server *old_disk)
+{
+	enum { CHANNELS = CHANNEL_TABLE - FIRST_NEEDED, LAST = NEEDED - 1 };
+	struct sent accepted = turn(desk, server, 0);
+	const uint8_t *i_handle = sundr_i_handle(maintainers_record(&accepted));
+	struct reply old = ask_server(sundr_i_handle(old_disk->records), CHANNEL_TABLE);
+	const size_t leaf = 2 * SUNDR_TABLE_BLOCK_LEN;
+	struct needed needed = { .paths_len = 0 };
+	uint8_t answers[sizeof needed.due], before[sizeof needed.due];
+	uint64_t answer;
+	int q;
+
+	tell("\n9. A build's start\n");
+	tell("A build begins, and needs %d files at once. The server sends a path for each; the release desk asks", NEEDED);
+	tell("in one call, with the paths end to end. The answers are those of %d lookups, in the order asked.", NEEDED);
+	for (q = 0; q < NEEDED; q++)
+		ask_for(i_handle, q == LAST ? NOT_THERE : FIRST_NEEDED + q, &needed, q);
+	must_accept(look_up_all(i_handle, &needed, answers), "the build's files");
+	must(memcmp(answers, needed.due, sizeof answers) == 0, "the answers of the single lookups");
+	tell("  question   file   file handle");
+	tell_entry(&needed, 0, answers);
+	tell_entry(&needed, CHANNELS, answers);
+	tell_entry(&needed, LAST, answers);
+	tell("Now the path of question %d comes with the old disk's leaf. One refused question refuses all: the", CHANNELS);
+	tell("call tells which question, and which block of its path, and writes no answer.");
+	memcpy(needed.paths + old.path_len * CHANNELS + leaf, old.path + leaf, SUNDR_TABLE_BLOCK_LEN);
+	memset(answers, 0x5a, sizeof answers);
+	memcpy(before, answers, sizeof before);
+	answer = look_up_all(i_handle, &needed, answers);
+	must_refuse(answer, SUNDR_WRONG_HASH, CHANNELS, 2);
+	must(memcmp(answers, before, sizeof before) == 0, "no answer");
+	tell("  %d at question %u, block %u   %s", sundr_refusal(answer), sundr_first(answer), sundr_second(answer),
+		sundr_refusal_text(sundr_refusal(answer)));
+}
+
 int main(int argc, char **argv)
 {
 	struct client maintainer = { .user = MAINTAINER };
@@ -512,6 +588,7 @@ int main(int argc, char **argv)
 	swapped_pieces(&desk, &server, &old_disk);
 	a_file_that_is_denied(&server);
 	from_the_cache(&maintainer, &desk, &server, &old_disk);
+	a_builds_start(&desk, &server, &old_disk);
 	tell("\nAll came out as told, in the library and, where a bar stands, in the desk program too.");
 	return 0;
 }

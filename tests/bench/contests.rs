@@ -13,7 +13,7 @@ pub struct Contest {
     pub sizes: &'static [usize],
     /// Those of them that have a row in the table, and bars; the others are for the curves.
     pub rows: &'static [usize],
-    /// How many of the bytes or users are worked through at one go: some 10 milliseconds.
+    /// How many of the bytes, users or questions are worked through at one go: some 10 milliseconds.
     go: usize,
     /// The library first.
     entries: &'static [Entry],
@@ -25,6 +25,8 @@ enum Measure {
     Bytes,
     /// Calls; a size is a number of users.
     Calls,
+    /// Questions, so many in a call; a size is the number of the bytes that are hashed.
+    Questions(usize),
 }
 
 struct Entry {
@@ -47,6 +49,9 @@ const fn openssl(name: &'static str, features: &'static str, sha: bool) -> Entry
 const REFERENCE: &str = "second implementation, rustc -O";
 const HASHES: &str = "its hashes alone";
 const CHOOSERS: [Entry; 2] = [entry("libsundr.a", "choose_sundr"), entry(HASHES, "choose_hashes")];
+const MANY: Entry = entry("libsundr.a", "many_sundr");
+const MANY_SINGLES: Entry = entry("64 single lookups", "many_singles");
+const MANY_HASHES: Entry = entry(HASHES, "many_hashes");
 
 /// A choice between two parts of the same length, which the title has; the size is what is hashed.
 const fn choice(title: &'static str, size: &'static [usize; 1]) -> Contest {
@@ -61,7 +66,20 @@ const fn choice(title: &'static str, size: &'static [usize; 1]) -> Contest {
     }
 }
 
-pub const CONTESTS: [Contest; 13] = [
+/// Lookups in one call, each along three blocks; the size is what is hashed, as many_work.h has it.
+const fn many(title: &'static str, questions: usize, size: &'static [usize; 1], entries: &'static [Entry]) -> Contest {
+    Contest {
+        title,
+        call: "sundr_lookup_many",
+        measure: Measure::Questions(questions),
+        sizes: size,
+        rows: size,
+        go: 3_200,
+        entries,
+    }
+}
+
+pub const CONTESTS: [Contest; 18] = [
     Contest {
         title: "SHA-256",
         call: "sundr_sha256",
@@ -143,6 +161,13 @@ pub const CONTESTS: [Contest; 13] = [
         go: 2 << 20,
         entries: &[entry("libsundr.a", "itable_sundr"), entry(HASHES, "itable_hashes")],
     },
+    // Of 4,096 files. A block is hashed unless it is, byte for byte, that at the same depth of the question before: of
+    // the 192 blocks of 64 paths, 8 are hashed where the files are neighbours, and 129 where only the root stays.
+    many("64 questions, neighbouring files", 64, &[8 * 642], &[MANY, MANY_SINGLES]),
+    many("64 questions, random order", 64, &[126 * 642], &[MANY, MANY_SINGLES]),
+    many("64 questions, files spread evenly", 64, &[81 * 642], &[MANY, MANY_SINGLES, MANY_HASHES]),
+    many("64 questions, only the root alike", 64, &[129 * 642], &[MANY, MANY_HASHES]),
+    many("One question of three blocks", 1, &[3 * 642], &[MANY, MANY_HASHES]),
     Contest {
         title: "A check of an inode and a block",
         call: "sundr_block_check",
@@ -162,10 +187,11 @@ pub const CONTESTS: [Contest; 13] = [
 impl Contest {
     /// What is done, with the size where there are several.
     pub fn name(&self, size: usize) -> String {
+        let several = self.sizes.len() > 1;
         match self.measure {
-            _ if self.sizes.len() == 1 => self.title.to_string(),
-            Measure::Bytes => format!("{}, {} bytes", self.title, grouped(size as f64)),
-            Measure::Calls => format!("{}, {size} users", self.title),
+            Measure::Bytes if several => format!("{}, {} bytes", self.title, grouped(size as f64)),
+            Measure::Calls if several => format!("{}, {size} users", self.title),
+            _ => self.title.to_string(),
         }
     }
 
@@ -173,6 +199,9 @@ impl Contest {
         match self.measure {
             Measure::Bytes => Unit { instructions: " a byte", digits: 1, speed: "MB/s", one: 1e6 },
             Measure::Calls => Unit { instructions: " a call", digits: 0, speed: "thousand calls/s", one: 1e3 },
+            Measure::Questions(_) => {
+                Unit { instructions: " a question", digits: 0, speed: "thousand questions/s", one: 1e3 }
+            }
         }
     }
 
@@ -187,7 +216,10 @@ impl Contest {
 
     /// How often the work is done at one go.
     pub fn times_a_go(&self, size: usize) -> usize {
-        self.go / size
+        match self.measure {
+            Measure::Bytes | Measure::Calls => self.go / size,
+            Measure::Questions(questions) => self.go / questions,
+        }
     }
 
     /// How often the work is done under callgrind, which is slow.
@@ -195,14 +227,16 @@ impl Contest {
         match self.measure {
             Measure::Bytes => (256 << 10) / size,
             Measure::Calls => 2_000,
+            Measure::Questions(questions) => 256 / questions,
         }
     }
 
-    /// How many bytes or calls the work comes to, done so often.
+    /// How many bytes, calls or questions the work comes to, done so often.
     pub fn amount(&self, size: usize, times: usize) -> f64 {
         match self.measure {
             Measure::Bytes => (size * times) as f64,
             Measure::Calls => times as f64,
+            Measure::Questions(questions) => (questions * times) as f64,
         }
     }
 }

@@ -1,6 +1,6 @@
 //! What the speeds come to, and the table of it in Markdown.
 
-/// A contender's speeds at one size, bytes or calls a second: for each run, those of its rounds.
+/// A contender's speeds at one size, bytes, calls or questions a second: for each run, those of its rounds.
 pub type Speeds = Vec<Vec<f64>>;
 
 /// The library's speed over another's.
@@ -35,7 +35,7 @@ pub struct Row {
     /// The library's function that does it.
     pub call: &'static str,
     pub unit: Unit,
-    /// A byte or a call.
+    /// A byte, a call or a question.
     pub instructions: Option<f64>,
     /// In bytes.
     pub stack: usize,
@@ -54,10 +54,10 @@ pub struct Beside {
 pub struct Unit {
     /// The words that follow a number of instructions.
     pub instructions: &'static str,
-    /// Its digits after the point: a byte takes few, a call many.
+    /// Its digits after the point: a byte takes few, a call or a question many.
     pub digits: usize,
     pub speed: &'static str,
-    /// How many bytes or calls a second are one of the speed's units.
+    /// How many bytes, calls or questions a second are one of the speed's units.
     pub one: f64,
 }
 
@@ -75,10 +75,10 @@ pub fn table(rows: &[Row], commit: &str, machine: &str, runs: usize, rounds: usi
 | | instructions | stack, bytes | beside, and its instructions | ratio (least to greatest) | speed |
 |---|--:|--:|---|--:|--:|
 {}
-Instructions are callgrind's, a byte hashed or a call; the stack is counted down to the lowest byte that the call
-writes. Both are the same in every run. The ratio is the library's speed over the other's, taken within a round of
-turns: the median of the {} rounds of {runs} runs, and in brackets the least and the greatest of the runs' medians. No
-run is left out. Speeds are the library's, by the processor's time on that machine, and move.
+Instructions are callgrind's, a byte hashed, a call, or one of a call's questions; the stack is counted down to the
+lowest byte that the call writes. Both are the same in every run. The ratio is the call's speed over the other's, taken
+within a round of turns: the median of the {} rounds of {runs} runs, and in brackets the least and the greatest of the
+runs' medians. No run is left out. Speeds are the call's, by the processor's time on that machine, and move.
 ",
         rows.iter().map(lines).collect::<String>(),
         runs * rounds

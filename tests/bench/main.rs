@@ -63,7 +63,7 @@ impl Field {
         }
     }
 
-    /// Instructions a byte or a call.
+    /// Instructions a byte, a call or a question.
     fn instructions(&self, contender: &Contender, size: usize) -> Option<f64> {
         let times = self.contest.times_counted(size);
         Some(contender.instructions(size, times)? / self.contest.amount(size, times))

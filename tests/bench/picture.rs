@@ -1,5 +1,6 @@
 //! The figures as a picture, in SVG: bars of the ratios on the left, and on the right the hash's
-//! speed over the message's length.
+//! speed over the message's length. A bar starts at 1, to the right where the library is faster and
+//! to the left where it is slower, on a log scale: ten times as fast and a tenth are as far away.
 //!
 //! It has a background of its own, for dark pages, and letters that can be read where a page shrinks
 //! it by a seventh. The curves' colours are Okabe and Ito's, which the colour-blind tell apart; their
@@ -36,7 +37,7 @@ pub fn draw(rows: &[Row], curves: &[Curve], commit: &str, runs: usize, rounds: u
     let title = format!("The SUNDR client library's speed at commit {commit}");
     page.text(24.0, 34.0, "start", "font-size='19' font-weight='bold'", &title);
     let note = format!(
-        "Bars: the median of {} rounds' ratios. Whiskers: the least and the greatest of {runs} runs' medians.",
+        "Bars, from 1: the median of {} rounds' ratios. Whiskers: the least and the greatest of {runs} runs' medians.",
         runs * rounds
     );
     page.text(24.0, 60.0, "start", "", &note);
@@ -59,19 +60,19 @@ pub fn draw(rows: &[Row], curves: &[Curve], commit: &str, runs: usize, rounds: u
 fn ratios(page: &mut Page, rows: &[Row]) -> f64 {
     let groups = groups(rows);
     let bars = groups.iter().flat_map(|group| &group.bars);
-    let greatest = bars.clone().map(|bar| bar.greatest).fold(1.0, f64::max);
-    let step = if greatest < 4.0 { 0.5 } else { 1.0 };
-    let scale = Scale { low: 0.0, high: (greatest / step).ceil() * step, from: BARS.0, to: BARS.1, by: |x| x };
+    let ticks = ticks(bars.clone().flat_map(|bar| [bar.least, 1.0, bar.greatest]));
+    let scale = Scale::log(&ticks, BARS.0, BARS.1);
+    let one = scale.place(1.0);
     let bottom = TOP + 34.0 + groups.len() as f64 * 28.0 + bars.count() as f64 * 23.0;
 
     page.heading(24.0, "Its speed over others'");
-    for tick in (0..).map(|i| f64::from(i) * step).take_while(|&tick| tick <= scale.high) {
+    for tick in ticks {
         let x = scale.place(tick);
         page.line((x, TOP + 18.0), (x, bottom), if tick == 1.0 { INK } else { FAINT });
         page.text(x, bottom + 19.0, "middle", "", &format!("{tick}"));
     }
     let middle = (BARS.0 + BARS.1) / 2.0;
-    page.text(middle, bottom + 42.0, "middle", "", "ratio of speeds (above 1: the library is faster)");
+    page.text(middle, bottom + 42.0, "middle", "", "ratio of speeds, log scale (above 1: the library is faster)");
 
     let mut y = TOP + 20.0;
     for group in &groups {
@@ -80,8 +81,9 @@ fn ratios(page: &mut Page, rows: &[Row]) -> f64 {
         for bar in &group.bars {
             y += 23.0;
             page.text(BARS.0 - 8.0, y - 7.0, "end", "", bar.label);
-            page.bar(scale.place(0.0), scale.place(bar.median), y - 20.0, 17.0);
-            page.text(scale.place(bar.greatest) + 7.0, y - 7.0, "start", HALO, &format!("{:.2}", bar.median));
+            page.bar(one, scale.place(bar.median), y - 20.0, 17.0);
+            let end = scale.place(bar.greatest).max(one);
+            page.text(end + 7.0, y - 7.0, "start", HALO, &format!("{:.2}", bar.median));
             page.whiskers(scale.place(bar.least), scale.place(bar.greatest), y - 11.5);
         }
     }
@@ -104,7 +106,7 @@ fn lengths(page: &mut Page, curves: &[Curve], bottom: f64) {
         page.line((x, top), (x, bottom), FAINT);
         page.text(x, bottom + 19.0, "middle", "", &grouped(tick));
     }
-    let ticks = ticks(curves);
+    let ticks = ticks(curves.iter().flat_map(|curve| &curve.points).map(|&(_, speed)| speed / 1e6));
     let speed = Scale::log(&ticks, bottom, top);
     for &tick in &ticks {
         let y = speed.place(tick);
@@ -133,11 +135,11 @@ fn legend(page: &mut Page, curves: &[Curve]) -> f64 {
     y
 }
 
-/// The scale's speeds, in MB/s, from the last that is below all to the first that is above.
-fn ticks(curves: &[Curve]) -> Vec<f64> {
-    let ticks: Vec<f64> = [1e1, 1e2, 1e3, 1e4].iter().flat_map(|ten| [1.0, 2.0, 5.0].map(|n| n * ten)).collect();
-    let speeds = curves.iter().flat_map(|curve| &curve.points).map(|&(_, speed)| speed / 1e6);
-    let (least, greatest) = (speeds.clone().fold(f64::MAX, f64::min), speeds.fold(0.0, f64::max));
+/// A log scale for these: from the last of its ticks that is below all to the first that is above.
+fn ticks(values: impl Iterator<Item = f64> + Clone) -> Vec<f64> {
+    let tens = [1e-1, 1e0, 1e1, 1e2, 1e3, 1e4];
+    let ticks: Vec<f64> = tens.iter().flat_map(|ten| [1.0, 2.0, 5.0].map(|n| n * ten)).collect();
+    let (least, greatest) = (values.clone().fold(f64::MAX, f64::min), values.fold(0.0, f64::max));
     let from = ticks.iter().rposition(|&tick| tick <= least).unwrap_or(0);
     let to = ticks.iter().position(|&tick| tick >= greatest).unwrap_or(ticks.len() - 1);
     ticks[from..=to].to_vec()
@@ -177,24 +179,22 @@ fn groups(rows: &[Row]) -> Vec<Group<'_>> {
     groups
 }
 
-/// A scale of values, drawn from a place to another; `by` is what of a value goes with the place.
+/// A scale of values by their logarithms, drawn from a place to another.
 struct Scale {
     low: f64,
     high: f64,
     from: f64,
     to: f64,
-    by: fn(f64) -> f64,
 }
 
 impl Scale {
-    /// From the first value to the last, by their logarithms.
+    /// From the first value to the last.
     fn log(values: &[f64], from: f64, to: f64) -> Scale {
-        Scale { low: values[0], high: values[values.len() - 1], from, to, by: f64::ln }
+        Scale { low: values[0], high: values[values.len() - 1], from, to }
     }
 
     fn place(&self, value: f64) -> f64 {
-        let part = ((self.by)(value) - (self.by)(self.low)) / ((self.by)(self.high) - (self.by)(self.low));
-        self.from + (self.to - self.from) * part
+        self.from + (self.to - self.from) * (value / self.low).ln() / (self.high / self.low).ln()
     }
 }
 
@@ -216,8 +216,9 @@ impl Page {
         self.0 += &format!("<path d='M{x:.1},{y:.1}L{to_x:.1},{to_y:.1}' stroke='{colour}'/>\n");
     }
 
+    /// To the right or to the left.
     fn bar(&mut self, x: f64, to_x: f64, y: f64, height: f64) {
-        let width = to_x - x;
+        let (x, width) = (x.min(to_x), (to_x - x).abs());
         self.0 += &format!(
             "<rect x='{x:.1}' y='{y:.1}' width='{width:.1}' height='{height:.1}' fill='{BAR}' fill-opacity='0.8'/>\n"
         );
