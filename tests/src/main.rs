@@ -30,22 +30,42 @@ mod shared;
 mod tables;
 mod trees;
 
-fn main() -> std::process::ExitCode {
-    let mut runner = runner::Runner::new();
-    sha256::checks(&mut runner);
-    compare::checks(&mut runner);
-    check::checks(&mut runner);
-    desk::checks(&mut runner);
-    server::checks(&mut runner);
-    runs::checks(&mut runner);
-    itable::checks(&mut runner);
-    lookup::checks(&mut runner);
-    bounds::checks(&mut runner);
-    many::checks(&mut runner);
-    shared::checks(&mut runner);
-    mixed::checks(&mut runner);
-    inode::checks(&mut runner);
-    choose::checks(&mut runner);
-    handed::checks(&mut runner);
-    runner.finish()
+use runner::Runner;
+use std::process::ExitCode;
+use std::sync::atomic::{AtomicUsize, Ordering};
+use std::thread;
+
+/// The checks of each piece.
+const PIECES: [fn(&mut Runner); 15] = [
+    sha256::checks,
+    compare::checks,
+    check::checks,
+    desk::checks,
+    server::checks,
+    runs::checks,
+    itable::checks,
+    lookup::checks,
+    bounds::checks,
+    many::checks,
+    shared::checks,
+    mixed::checks,
+    inode::checks,
+    choose::checks,
+    handed::checks,
+];
+
+/// Two pieces at a time, as the proofs are checked: nothing is timed, and no two share memory.
+fn main() -> ExitCode {
+    let next = AtomicUsize::new(0);
+    let work = || {
+        let mut runner = Runner::new();
+        while let Some(checks) = PIECES.get(next.fetch_add(1, Ordering::Relaxed)) {
+            checks(&mut runner);
+        }
+        runner
+    };
+    thread::scope(|scope| {
+        let other = scope.spawn(work);
+        work().and(other.join().expect("a check's panic is caught")).finish()
+    })
 }

@@ -49,6 +49,11 @@ impl Runner {
         }
     }
 
+    /// Both runners' counts.
+    pub fn and(self, other: Runner) -> Runner {
+        Runner { passed: self.passed + other.passed, failed: self.failed + other.failed }
+    }
+
     /// Prints the counts as the last line.
     pub fn finish(self) -> ExitCode {
         println!("{} passed, {} failed", self.passed, self.failed);
