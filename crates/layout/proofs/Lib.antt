@@ -4,3 +4,4 @@ pub mod Parts
 pub mod Values
 pub mod Strings
 pub mod Copied
+pub mod Zeros

@@ -3,7 +3,7 @@
 // the parts of a byte string are, and the laws of both, stands in specs/ and proofs/.
 ghost use mathlib.Core.Path.{_≡_};
 ghost use mathlib.Core.Bool.{_&&_};
-ghost use Prim.Native.Nat.{_+_, _*_, _-_, _≤_};
+ghost use Prim.Native.Nat.{_+_, _*_, _-_, _≤_, min};
 ghost use lib.Dec.{eqb};
 ghost use lib.ListN.{length, getD};
 ghost use Rattle.layout.specs.Bytes.{four, eight, bytes4, bytes8, bytesAt};
@@ -156,16 +156,24 @@ pub fn equal(a: &[u8], b: &[u8]) -> bool
     alike
 }
 
-// Whether the bytes from a place up to another are zero.
+// The smaller one.
+fn least(x: usize, y: usize) -> usize
+    ensures { λ r. ⌜ r ≡ min x y ⌝ }
+{
+    if x < y { x } else { y }
+}
+
+// Whether the bytes from a place up to another are zero. Past the end of the bytes stand zeros. No
+// byte ends the loop, so that the compiler tests sixteen at a time.
 pub fn zero_between(b: &[u8], from: usize, to: usize) -> bool
     ensures { λ r. ⌜ r ≡ zeros (now (b .entry)) from (to - from) ⌝ }
 {
+    let end = least(to, b.len());
+    let mut zero = true;
     let mut x = from;
-    while x < to {
-        if byte_at(b, x) != 0 {
-            return false;
-        }
+    while x < end {
+        zero = still(zero, b[x], 0);
         x += 1;
     }
-    true
+    zero
 }

@@ -119,17 +119,35 @@ pub every-cong : (p q : ℕ → Bool) (i k : ℕ) → ((j : ℕ) → i ≤ j →
 unfolding every
 every-cong p q i k e = ap (λ r. eqb r (i + k)) (find-cong (λ v. not (p v)) (λ v. not (q v)) i k (λ j h l. ap not (e j h l)))
 
-more-by : (p : ℕ → Bool) (k : ℕ) (a b : Bool) → every p 0 k ≡ a → p k ≡ b → every p 0 (k + 1) ≡ (a && b)
-more-by p k true true ea eb =
-    every-intro p 0 (k + 1)
-    (λ j h l. ⊎-elim (λ e. ap p e ∙ eb) (λ m. every-at p 0 k ea j h (omega arith)) (eq-or-lt-of-le {n = j} {m = k} (omega arith)))
-more-by p k true false ea eb = every-fails p 0 (k + 1) k (omega arith) (omega arith) eb
-more-by p k false b ea eb =
-    let f = first-failure p 0 k ea in every-fails p 0 (k + 1) _ (omega arith) (omega (arith, f .0)) (f .1)
+more-by : (p : ℕ → Bool) (i k : ℕ) (a b : Bool) → every p i k ≡ a → p (i + k) ≡ b → every p i (k + 1) ≡ (a && b)
+more-by p i k true true ea eb =
+    every-intro p i (k + 1)
+    (λ j h l. ⊎-elim (λ e. ap p e ∙ eb) (λ m. every-at p i k ea j h (omega arith)) (eq-or-lt-of-le {n = j} {m = i + k} (omega arith)))
+more-by p i k true false ea eb = every-fails p i (k + 1) (i + k) (omega arith) (omega arith) eb
+more-by p i k false b ea eb =
+    let f = first-failure p i k ea in
+    every-fails p i (k + 1) _ (found (λ v. not (p v)) i k .from) (omega (arith, f .0)) (f .1)
 
--- One place more.
+-- One place more, and of places from 0 on.
+pub every-next : (p : ℕ → Bool) (i k : ℕ) → every p i (k + 1) ≡ (every p i k && p (i + k))
+every-next p i k = more-by p i k _ _ refl refl
+
 pub every-more : (p : ℕ → Bool) (k : ℕ) → every p 0 (k + 1) ≡ (every p 0 k && p k)
-every-more p k = more-by p k _ _ refl refl
+every-more p k = let z : 0 + k ≡ k = omega arith in every-next p 0 k ∙ ap (λ j. every p 0 k && p j) z
+
+-- Places at which p holds may be left out at the end.
+pub every-reach :
+    (p : ℕ → Bool) (i k n : ℕ) → k ≤ n → ((j : ℕ) → i + k ≤ j → j < i + n → p j ≡ true) → every p i k ≡ every p i n
+every-reach p i k n h after =
+    ⊎-elim
+    (λ t.
+    t ∙
+    sym
+    (every-intro p i n
+    (λ j a b. elim (decLt j (i + k)) [ yes l ↦ every-at p i k t j a l | no l ↦ after j (omega arith) b ])))
+    (λ f.
+    let w = first-failure p i k f in
+    f ∙ sym (every-fails p i n _ (found (λ v. not (p v)) i k .from) (omega (arith, w .0)) (w .1))) (bool-cases (every p i k))
 
 both-by : (p q : ℕ → Bool) (i k : ℕ) (a b : Bool) → every p i k ≡ a → every q i k ≡ b → every (λ v. p v && q v) i k ≡ (a && b)
 both-by p q i k true true ea eb =

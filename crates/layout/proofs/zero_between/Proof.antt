@@ -1,35 +1,35 @@
--- `return false` exhibits a byte that is not zero.
--- The invariant: the bytes passed are zero.
-use Prim.Native.Nat.{ℕ, _≤_, _<_, _-_}
-use mathlib.Core.Bool.{true}
-use mathlib.Core.Path.{_≡_, sym, _∙_}
+-- The invariant: whether the bytes passed are zero. What is behind the end of the bytes is read as zero.
+use Prim.Native.Nat.{_≤_, _-_, min}
+use mathlib.Core.Bool.{_&&_}
+use mathlib.Core.Path.{_≡_, sym, ap, _∙_}
 use native.Mathlib.Omega.{arith}
 use lib.Dec.{eqb}
-use lib.ListN.{getD}
-use borrow.Author.Tests.{eq-eqb, ne-eqb}
-use Rattle.search.proofs.Search.{every-intro, every-fails, span-more}
+use lib.ListN.{length, getD}
+use Rattle.search.proofs.Search.{every-intro}
 use Rattle.layout.specs.Strings.{zeros}
+use Rattle.layout.proofs.Zeros.{zeros-next, zeros-reach}
 use Rattle.layout.proofs.zero_between.Statement.{statement}
 use Rattle.layout.proofs.zero_between.Tie as tie
 
 abbrev Inv-loop : tie.InvT-loop
-Inv-loop b from to x₀ x = (from ≤ x) × ((m : ℕ) → from ≤ m → m < x → eqb (getD b m 0) 0 ≡ true)
+Inv-loop b from to end zero₀ x₀ zero x =
+    (end ≡ min to (length b)) × (from ≤ x) × (x - from ≤ to - from) × (zero ≡ zeros b from (x - from))
 
 abbrev μ-loop : tie.MeasureT-loop
-μ-loop b from to x₀ x = to - x
+μ-loop b from to end zero₀ x₀ zero x = end - x
+
+least-requires : tie.Need-least-requires Inv-loop μ-loop
+least-requires c κs = omega arith
 
 loop-holds : tie.Need-loop-holds Inv-loop μ-loop
-loop-holds c = (omega arith, λ m h l. absurd (omega arith))
-
-byte-at-requires : tie.Need-byte-at-requires Inv-loop μ-loop
-byte-at-requires c κs = omega arith
-
-returns : tie.Need-returns Inv-loop μ-loop
 unfolding zeros
-returns c =
-    sym
-    (every-fails _ _ _ (c .before .before .before .loop .x) (c .before .before .before .loop .inv .0) (omega arith)
-    (ne-eqb _ 0 (λ e. c .if1 .taken (c .before .byte-at .ensures ∙ e))))
+loop-holds c = (c .least .ensures, omega arith, omega arith, sym (every-intro _ _ _ (λ j a b. absurd (omega arith))))
+
+shared-slice-read-still : tie.Need-shared-slice-read-still Inv-loop μ-loop
+shared-slice-read-still c = omega arith
+
+still-requires : tie.Need-still-requires Inv-loop μ-loop
+still-requires c κs = omega arith
 
 add-x : tie.Need-add-x Inv-loop μ-loop
 add-x c = omega arith
@@ -38,15 +38,21 @@ loop-less : tie.Need-loop-less Inv-loop μ-loop
 loop-less c = omega arith
 
 loop-again : tie.Need-loop-again Inv-loop μ-loop
-loop-again c = (
-  omega arith,
-  span-more _ _ (c .before .before .before .loop .inv .1)
-      (eq-eqb _ _ (sym (c .before .byte-at .ensures) ∙ c .if1 .left)),
-)
+loop-again c =
+    let l = c .before .before .before .loop in
+    let a = c .before .before .before .before .before .before .args in (
+      l .inv .0,
+      omega arith,
+      omega arith,
+      c .still .ensures ∙
+          (ap (λ t. t && eqb (getD (a .b .now) (l .x) 0) 0) (l .inv .3) ∙ sym (zeros-next (a .b .now) (a .from) (l .x) (l .inv .1))),
+    )
 
-returns-2 : tie.Need-returns-2 Inv-loop μ-loop
-unfolding zeros
-returns-2 c = sym (every-intro _ _ _ (λ m a b. c .before .loop .inv .1 m a (omega arith)))
+returns : tie.Need-returns Inv-loop μ-loop
+returns c =
+    let l = c .before .loop in
+    let a = c .before .before .before .before .args in
+    l .inv .3 ∙ zeros-reach (a .b .now) (a .from) (l .x) (l .inv .1) (a .to) (l .inv .2) (omega arith)
 
 pub zero-between-spec : {M : Type 1} → statement M
 zero-between-spec =
@@ -54,10 +60,11 @@ zero-between-spec =
     (tie.spec
     Inv-loop
     μ-loop
+    least-requires
     loop-holds
-    byte-at-requires
-    returns
+    shared-slice-read-still
+    still-requires
     add-x
     loop-less
     loop-again
-    returns-2)
+    returns)
