@@ -28,6 +28,9 @@ use Rattle.itable.proofs.CountRefused.{count-refused}
 use Rattle.itable.proofs.OneQuestion.{one-question}
 use Rattle.itable.proofs.ManyAsTable.{many-as-table}
 use Rattle.itable.proofs.BlockCheckMeans.{block-check-means}
+use Rattle.itable.proofs.LargeCheckMeans.{large-check-means}
+use Rattle.itable.proofs.ShortAlike.{short-alike}
+use Rattle.itable.proofs.SeventeenAccepted.{seventeen-accepted}
 use Rattle.itable.proofs.EntryMeans.{entry-means}
 use Rattle.itable.proofs.WrittenAnswers.{written-answers}
 use Rattle.itable.proofs.OtherwiseCollides.{otherwise-collides}
@@ -43,6 +46,7 @@ use Rattle.report.proofs.UsersPrinted.{users-printed}
 use Rattle.report.proofs.ExamplePrinted.{example-printed}
 use Rattle.claims.specs.Claims.{Claims}
 use Rattle.claims.proofs.ExamplesHold.{examples-hold}
+use Rattle.claims.proofs.LargeExamples.{large-examples}
 
 pub claims : Claims
 claims =
@@ -88,6 +92,9 @@ claims =
       one-question = one-question;
       many-as-table = many-as-table;
       block-check-means = block-check-means;
+      large-check-means = large-check-means;
+      short-alike = short-alike;
+      seventeen-accepted = seventeen-accepted;
       choose-means = choose-means;
       chosen-is-path = chosen-is-path;
       empty-is-refused = empty-is-refused;
@@ -100,4 +107,5 @@ claims =
       users-printed = users-printed;
       example-printed = example-printed;
       examples-hold = examples-hold;
+      large-examples = large-examples;
     }

@@ -1,2 +1,3 @@
 pub mod ExamplesHold
+pub mod LargeExamples
 pub mod Claims

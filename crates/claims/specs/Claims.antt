@@ -24,6 +24,8 @@ use Rattle.itable.specs.Before.{DiffersByThree}
 use Rattle.itable.specs.ManyMeaning.{ManyMeans, CountRefused, OneQuestion}
 use Rattle.itable.specs.ManyAsTable.{ManyAsTable}
 use Rattle.itable.specs.InodeMeaning.{BlockCheckMeans}
+use Rattle.itable.specs.LargeMeaning.{LargeCheckMeans}
+use Rattle.itable.specs.LargeFiles.{ShortAlike, SeventeenAccepted}
 use Rattle.itable.specs.Answers.{EntryMeans, AtMostBlocks, WrittenAnswers, OtherwiseCollides, BufferAnswersAsTable}
 use Rattle.cache.specs.ChooseMeaning.{ChooseMeans}
 use Rattle.cache.specs.Handed.{ChosenIsPath, EmptyIsRefused, BlockChosen, EmptyNotThere}
@@ -33,7 +35,7 @@ use Rattle.report.specs.ExamplePrinted.{ExamplePrinted}
 use Rattle.sundr.specs.Read.{AnswersRead}
 use Rattle.sundr.specs.Chosen.{ChosenRead}
 use Rattle.sundr.specs.Server.{ServerInBytes}
-use Rattle.claims.specs.Examples.{ExamplesHold}
+use Rattle.claims.specs.Examples.{ExamplesHold, LargeExamples}
 
 pub record Claims : Type 1 where
   -- No fork is joined: in every run in which no honest user's record is forged, where two honest users signed structures that each lack the
@@ -120,6 +122,12 @@ pub record Claims : Type 1 where
   pub many-as-table : ManyAsTable
   -- The check of a file's block accepts exactly where each condition holds, and refuses exactly for the first that does not.
   pub block-check-means : BlockCheckMeans
+  -- So does that of a large file's block, with the conditions on its indirect block among them.
+  pub large-check-means : LargeCheckMeans
+  -- Every inode of kind 6 is answered as it is when it is written as a large one, which has no need of an indirect block.
+  pub short-alike : ShortAlike
+  -- Any bytes of a block are accepted as the last of seventeen blocks, exactly if the hash of the indirect block that names them is not zero.
+  pub seventeen-accepted : SeventeenAccepted
   -- Of a reply and a cached part, both of a length that is taken, the one is chosen that is there and has the wanted hash, the reply first; a choice
   -- is refused exactly for a length, or where neither is the one.
   pub choose-means : ChooseMeans
@@ -145,3 +153,5 @@ pub record Claims : Type 1 where
   pub example-printed : ExamplePrinted
   -- The twelve marked examples.
   pub examples-hold : ExamplesHold
+  -- And those of large files, from no byte to the last that 144 blocks hold.
+  pub large-examples : LargeExamples

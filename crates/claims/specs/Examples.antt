@@ -72,3 +72,10 @@ All (e ∷ es) = Holds e × All es
 
 abbrev pub ExamplesHold : Type 0
 ExamplesHold = All examples
+
+-- In the manner of P12, of large files: those of 0, 1, 131,072, 131,073 and 1,179,648 bytes have 0, 1, 16, 17 and 144 blocks.
+unfoldable pub largeExamples : List Example
+largeExamples = file 0 0 ∷ file 1 1 ∷ file 131072 16 ∷ file 131073 17 ∷ file 1179648 144 ∷ []
+
+abbrev pub LargeExamples : Type 0
+LargeExamples = All largeExamples

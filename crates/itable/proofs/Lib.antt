@@ -14,7 +14,12 @@ pub mod Paths
 pub mod WrittenAnswers
 pub mod EntryMeans
 pub mod BufferAnswersAsTable
+pub mod FileBlocks
+pub mod FileStages
 pub mod BlockCheckMeans
+pub mod LargeCheckMeans
+pub mod ShortAlike
+pub mod SeventeenAccepted
 pub mod LookupMeans
 pub mod NoneOnlyAtRoot
 pub mod LeafGives

@@ -8,6 +8,9 @@ pub mod Many
 pub mod ManyMeaning
 pub mod Inode
 pub mod InodeMeaning
+pub mod LargeInode
+pub mod LargeMeaning
+pub mod LargeFiles
 pub mod Answers
 pub mod ManyAsTable
 pub mod LeafGives
