@@ -2,41 +2,47 @@
 -- about hashes is over their place and number.
 use Prim.Native.Nat.{ℕ, _+_, _-_, _*_, _≤_, _<_}
 use mathlib.Core.Bool.{Bool, true, false, _&&_}
-use mathlib.Core.List.{List, [], _∷_}
-use mathlib.Core.Path.{_≡_, sym, _∙_}
+use mathlib.Core.List.{List, _++_}
+use mathlib.Core.Path.{_≡_, sym, ap, _∙_}
 use native.Mathlib.Omega.{arith}
-use lib.Dec.{eqb}
+use lib.Dec.{ltb, eqb}
 use lib.ListN.{length, getD, take, drop}
-use borrow.Author.Tests.{eq-eqb, ne-eqb, lt-ltb, le-ltb}
+use borrow.Author.Tests.{eqb-true, eq-eqb, ne-eqb, lt-ltb, le-ltb}
 use Rattle.layout.specs.Strings.{same, zeros}
-use Rattle.refusal.specs.Answer.{accepted, refused}
-use Rattle.refusal.specs.Order.{Step, unless, inOrder, tried}
+use Rattle.refusal.specs.Answer.{Answer, accepted, refused}
+use Rattle.refusal.specs.Order.{Step, inOrder, tried}
 use Rattle.refusal.specs.Refusal.{refusal, said}
 use Rattle.refusal.specs.declared.Check.{Check}
 use Rattle.refusal.specs.declared.Check.the-variants.{Passed, Refused}
 use Rattle.refusal.specs.declared.Refusal.{Refusal}
 use Rattle.refusal.proofs.Means.{in-append}
+use Rattle.refusal.proofs.Order.{passed, unless-passed}
 use Rattle.refusal.proofs.Stage.{stage-passed, stage-refused}
 use Rattle.sha256.specs.Sha256.{sha256}
 use Rattle.sha256.specs.Hash.{isHash}
 use Rattle.sha256.proofs.Laws.{is-hash}
-use Rattle.itable.specs.Inode.{fileBlocks, hashAt, restZero, holds, fileLength, wellFormed, inodeSteps, indexSteps}
-use Rattle.inode.specs.Internal.Named.{namedSteps}
+use Rattle.itable.specs.Inode.{fileBlocks, hashAt, restZero, holds, fileLength, indexSteps, blockSteps}
+use Rattle.itable.proofs.FileBlocks.{has-block}
+use Rattle.inode.specs.Internal.Named.{namedSteps, handleSteps, formSteps}
 
--- The form of an inode of kind κ for files of up to `most` blocks, of which n hashes stand from a place on, by its kind as it was read.
-module _ (b : List ℕ) (κ most at n x : ℕ) (ex : x ≡ getD b 0 0) where
-  abbrev formed : Bool
-  formed = eqb (getD b 0 0) κ && (holds most (fileLength b) && restZero b at n (fileBlocks (fileLength b)))
-
-  pub other-kind : (x ≡ κ → ⊥) → false ≡ formed
+-- A form that begins with its kind, as it was read, and what is tested behind it.
+module _ (b : List ℕ) (κ x : ℕ) (ex : x ≡ getD b 0 0) (rest : Bool) where
+  pub other-kind : (x ≡ κ → ⊥) → false ≡ (eqb (getD b 0 0) κ && rest)
   other-kind h = rw (sym ex, ne-eqb x κ h)
 
-  module _ (h : x ≡ κ) (len : ℕ) (el : len ≡ fileLength b) where
-    pub too-long : holds most len ≡ false → false ≡ formed
-    too-long f = rw (sym ex, eq-eqb x κ h, sym el, f)
+  pub its-kind : x ≡ κ → {r : Bool} → r ≡ rest → r ≡ (eqb (getD b 0 0) κ && rest)
+  its-kind h e = rw (sym ex, eq-eqb x κ h) e
 
-    pub is-inode : holds most len ≡ true → (m : ℕ) → m ≡ fileBlocks len → (r : Bool) → r ≡ restZero b at n m → r ≡ formed
-    is-inode f m em r e = rw (sym ex, eq-eqb x κ h, sym el, f, sym em) e
+-- A file of up to `most` blocks, of which n hashes stand from a place on.
+module _ (b : List ℕ) (most at n len : ℕ) (el : len ≡ fileLength b) where
+  abbrev fit : Bool
+  fit = holds most (fileLength b) && restZero b at n (fileBlocks (fileLength b))
+
+  pub too-long : holds most len ≡ false → false ≡ fit
+  too-long f = rw (sym el, f)
+
+  pub is-inode : holds most len ≡ true → (m : ℕ) → m ≡ fileBlocks len → (r : Bool) → r ≡ restZero b at n m → r ≡ fit
+  is-inode f m em r e = rw (sym el, f, sym em) e
 
 -- The hashes from a place on.
 module _ (b : List ℕ) (at : ℕ) where
@@ -44,8 +50,12 @@ module _ (b : List ℕ) (at : ℕ) where
   unfolding restZero
   rest-tested n m r e = let d : at + 32 * n - (at + 32 * m) ≡ 32 * (n - m) = omega arith in rw (sym d) e
 
-  pub hash-lent : (k : ℕ) → take (at + 32 * k + 32 - (at + 32 * k)) (drop (at + 32 * k) b) ≡ hashAt b at k
-  hash-lent k = let e : at + 32 * k + 32 - (at + 32 * k) ≡ 32 = omega arith in rw e
+  -- Hash k as it is lent to the tests of a block.
+  pub hash-lent :
+      (k len n : ℕ) (block : List ℕ) {a : Answer Unit} →
+      a ≡ tried (blockSteps len n (take (at + 32 * k + 32 - (at + 32 * k)) (drop (at + 32 * k) b)) block) →
+      a ≡ tried (blockSteps len n (hashAt b at k) block)
+  hash-lent k len n block e = let l : at + 32 * k + 32 - (at + 32 * k) ≡ 32 = omega arith in rw l at e
 
 -- The tests of bytes that a hash names.
 module _ (size : ℕ) (hash : List ℕ) (place : ℕ) (b : List ℕ) where
@@ -65,34 +75,37 @@ module _ (size : ℕ) (hash : List ℕ) (place : ℕ) (b : List ℕ) where
     unfolding namedSteps inOrder
     is-named h = rw (eq-eqb (length b) size l, hashed, h)
 
--- The tests of the inode.
-module _ (handle inode : List ℕ) where
-  abbrev form : List Step
-  form = unless (wellFormed inode) 3 0 0 ∷ []
-
-  pub wrong-handle : (length handle ≡ 32 → ⊥) → refused 2 0 0 ≡ tried (inodeSteps handle inode)
-  unfolding inodeSteps inOrder
+-- The tests of an inode that the handle names, and others behind them.
+module _ (size : ℕ) (handle inode : List ℕ) (us : List Step) where
+  pub wrong-handle : (length handle ≡ 32 → ⊥) → refused 2 0 0 ≡ tried (handleSteps size handle inode ++ us)
+  unfolding handleSteps inOrder
   wrong-handle h = rw (ne-eqb (length handle) 32 h)
 
-  module _ (lh : length handle ≡ 32) (c : Check) (e : said c ≡ tried (namedSteps 517 handle 0 inode)) where
-    split : tried (inodeSteps handle inode) ≡ inOrder (namedSteps 517 handle 0 inode) (tried form)
-    unfolding inodeSteps namedSteps inOrder
-    split = rw (eq-eqb (length handle) 32 lh) (in-append (namedSteps 517 handle 0 inode) form (accepted tt))
+  pub right-handle :
+      length handle ≡ 32 → {a : Answer Unit} → a ≡ tried (namedSteps size handle 0 inode ++ us) → a ≡ tried (handleSteps size handle inode ++ us)
+  unfolding handleSteps inOrder
+  right-handle h e = rw (eq-eqb (length handle) 32 h) e
 
-    pub inode-not-named : {r : Refusal} → c ≡ Refused r → refusal r ≡ tried (inodeSteps handle inode)
-    inode-not-named p = sym (split ∙ stage-refused (namedSteps 517 handle 0 inode) c e (tried form) p)
+-- The test of a form.
+module _ (formed : Bool) (place : ℕ) where
+  pub malformed : formed ≡ false → refused 3 place 0 ≡ tried (formSteps formed place)
+  unfolding formSteps inOrder
+  malformed h = rw h
 
-    module _ (p : c ≡ Passed) where
-      goes-on : tried (inodeSteps handle inode) ≡ tried form
-      goes-on = split ∙ stage-passed (namedSteps 517 handle 0 inode) c e (tried form) p
+  pub form-passes : formed ≡ true → accepted tt ≡ tried (formSteps formed place)
+  unfolding formSteps inOrder
+  form-passes h = rw h
 
-      pub malformed : wellFormed inode ≡ false → refused 3 0 0 ≡ tried (inodeSteps handle inode)
-      unfolding inOrder
-      malformed h = rw (goes-on, h)
+-- Tests, and then others.
+module _ (ts us : List Step) (c : Check) (e : said c ≡ tried ts) where
+  split : tried (ts ++ us) ≡ inOrder ts (tried us)
+  split = in-append ts us (accepted tt)
 
-      pub inode-passes : wellFormed inode ≡ true → accepted tt ≡ tried (inodeSteps handle inode)
-      unfolding inOrder
-      inode-passes h = rw (goes-on, h)
+  pub first-refused : {r : Refusal} → c ≡ Refused r → refusal r ≡ tried (ts ++ us)
+  first-refused p = sym (split ∙ stage-refused ts c e (tried us) p)
+
+  pub then-others : c ≡ Passed → {a : Answer Unit} → a ≡ tried us → a ≡ tried (ts ++ us)
+  then-others p f = f ∙ sym (split ∙ stage-passed ts c e (tried us) p)
 
 -- The test of the index.
 module _ (len k m : ℕ) (em : m ≡ fileBlocks len) where
@@ -103,3 +116,20 @@ module _ (len k m : ℕ) (em : m ≡ fileBlocks len) where
   pub index-passes : k < m → accepted tt ≡ tried (indexSteps len k)
   unfolding indexSteps inOrder
   index-passes h = rw (← em, lt-ltb k m h)
+
+-- What passes: an inode that is whole and well formed, and the index of a block that the file has.
+pub inode-in :
+    (handle inode : List ℕ) (size : ℕ) (formed : Bool) (c : Check) →
+    said c ≡ tried (handleSteps size handle inode ++ formSteps formed 0) → c ≡ Passed → (length inode ≡ size) × (formed ≡ true)
+unfolding handleSteps namedSteps formSteps
+inode-in handle inode size formed c e p =
+    let s = passed (handleSteps size handle inode ++ formSteps formed 0) (sym e ∙ ap said p) .0 in (
+      eqb-true (length inode) size (unless-passed (eqb (length inode) size) 2 0 0 (s .1 .0)),
+      unless-passed formed 3 0 0 (s .1 .1 .1 .0),
+    )
+
+pub index-in : (len k : ℕ) (d : Check) → said d ≡ tried (indexSteps len k) → d ≡ Passed → 8192 * k < len
+unfolding indexSteps
+index-in len k d e p =
+    let s = passed (indexSteps len k) (sym e ∙ ap said p) .0 in
+    has-block len k .0 (unless-passed (ltb k (fileBlocks len)) 10 0 0 (s .0))

@@ -1,16 +1,21 @@
-// The check of a file's inode under its file handle, and of one block of the file under the inode.
-// Each hash is compared before anything else of what it covers is believed. Nothing is written, and
+// The check of a file's inode under its file handle, and of one block of the file under the inode;
+// and of a large file's, whose inode names what its own hashes do not by an indirect block. Each
+// hash is compared before anything else of what it covers is believed. Nothing is written, and
 // nothing is kept between calls; how the file handle was found is the lookup's work.
+mod large;
+
 use refusal::Check;
 use refusal::Refusal;
 ghost use mathlib.Core.Path.{_≡_};
 ghost use Prim.Native.Nat.{_*_, _≤_, _<_};
 ghost use Rattle.refusal.specs.Refusal.{said};
 ghost use Rattle.refusal.specs.Order.{tried};
-ghost use Rattle.itable.specs.Inode.{fileBlocks, blockLength, restZero, holds as holdsOf, fileLength, wellFormed};
+ghost use Rattle.itable.specs.Inode.{fileBlocks, blockLength, restZero, holds as holdsOf, fileLength};
 ghost use Rattle.itable.specs.Inode.{inodeSteps, indexSteps, blockSteps, blockCheck};
+ghost use Rattle.itable.specs.LargeInode.{largeCheck};
 ghost use Rattle.inode.specs.Spanned.{answerOf};
-ghost use Rattle.inode.specs.Internal.Named.{namedSteps};
+ghost use Rattle.inode.specs.Internal.Named.{namedSteps, formSteps};
+ghost use Rattle.inode.specs.Internal.Fitting.{hashesFit, kindSteps};
 
 // The bytes of a hash, and of a file's block that is not the last.
 const HASH: usize = 32;
@@ -74,15 +79,16 @@ fn file_length(inode: &[u8]) -> usize
     layout::u32_at(inode, LENGTH) as usize
 }
 
-// Whether an inode is well formed.
-fn well_formed(inode: &[u8]) -> bool
-    ensures { λ r. ⌜ r ≡ wellFormed (now (inode .entry)) ⌝ }
+// Whether an inode is of this kind, its file of this many blocks at most, and its own hashes fit it.
+fn hashes_fit(inode: &[u8], kind: u8, most: usize) -> bool
+    requires { ⌜ most ≤ 65536 ⌝ }
+    ensures { λ r. ⌜ r ≡ hashesFit (now (inode .entry)) kind most ⌝ }
 {
-    if layout::byte_at(inode, 0) != KIND {
+    if layout::byte_at(inode, 0) != kind {
         return false;
     }
     let len = file_length(inode);
-    if !holds(COUNT, len) {
+    if !holds(most, len) {
         return false;
     }
     rest_zero(inode, HASHES, COUNT, file_blocks(len))
@@ -102,21 +108,37 @@ fn named(b: &[u8], size: usize, hash: &[u8], place: usize) -> Check
     Check::Passed
 }
 
-// The tests of the inode, in their order.
-fn inode_check(handle: &[u8], inode: &[u8]) -> Check
-    ensures { λ r. ⌜ said r ≡ tried (inodeSteps (now (handle .entry)) (now (inode .entry))) ⌝ }
+// The test of a form, of what stands at a place.
+fn form_check(formed: bool, place: usize) -> Check
+    ensures { λ r. ⌜ said r ≡ tried (formSteps formed place) ⌝ }
+{
+    if !formed {
+        return Check::Refused(Refusal::Malformed(place));
+    }
+    Check::Passed
+}
+
+// The tests of an inode of this size and kind, whose file has this many blocks at most, in their
+// order: the handle names it, and its own hashes fit.
+fn kind_check(handle: &[u8], inode: &[u8], size: usize, kind: u8, most: usize) -> Check
+    requires { ⌜ (size ≤ 65536) × (most ≤ 65536) ⌝ }
+    ensures { λ r. ⌜ said r ≡ tried (kindSteps size kind most (now (handle .entry)) (now (inode .entry))) ⌝ }
 {
     if handle.len() != HASH {
         return Check::Refused(Refusal::Length(0));
     }
-    let c = named(inode, SIZE, handle, 0);
+    let c = named(inode, size, handle, 0);
     if let Check::Refused(r) = c {
         return Check::Refused(r);
     }
-    if !well_formed(inode) {
-        return Check::Refused(Refusal::Malformed(0));
-    }
-    Check::Passed
+    form_check(hashes_fit(inode, kind, most), 0)
+}
+
+// The tests of the inode, in their order.
+fn inode_check(handle: &[u8], inode: &[u8]) -> Check
+    ensures { λ r. ⌜ said r ≡ tried (inodeSteps (now (handle .entry)) (now (inode .entry))) ⌝ }
+{
+    kind_check(handle, inode, SIZE, KIND, COUNT)
 }
 
 // The test of the index k, by the file's length.
@@ -159,4 +181,35 @@ pub fn block_check(handle: &[u8], inode: &[u8], k: u32, block: &[u8]) -> Spanned
         return Spanned::Refused(r);
     }
     Spanned::Span(BLOCK * i, block.len())
+}
+
+// Checks a large file's inode, which has the file handle for its hash, and block k of the file. The
+// indirect block is lent for a block that the inode does not name by itself, from block 16 on, and
+// is empty for any other. Gives the file offset and the length of the block. All that is lent is
+// only read.
+pub fn large_block_check(
+    handle: &[u8],
+    inode: &[u8],
+    k: u32,
+    indirect: &[u8],
+    block: &[u8],
+) -> Spanned
+    ensures { λ r. ⌜ answerOf r ≡ largeCheck (now (handle .entry)) (now (inode .entry)) k (now (indirect .entry)) (now (block .entry)) ⌝ }
+{
+    let c = large::inode_check(handle, inode);
+    if let Check::Refused(r) = c {
+        return Spanned::Refused(r);
+    }
+    let len = file_length(inode);
+    let i = k as usize;
+    let d = index_check(len, i);
+    if let Check::Refused(r) = d {
+        return Spanned::Refused(r);
+    }
+    let e = large::read_check(inode, len, i, indirect, block);
+    if let Check::Refused(r) = e {
+        return Spanned::Refused(r);
+    }
+    let offset = BLOCK * i;
+    Spanned::Span(offset, block.len())
 }

@@ -1,7 +1,7 @@
 -- The three stages in the definition's order; an inode and an index that pass bound the place of the hash in the inode.
 use native.Mathlib.Omega.{arith}
 use Rattle.inode.proofs.Laws.{hash-lent}
-use Rattle.inode.proofs.Calls.{inode-refused, index-refused, block-in, block-refused, block-accepted}
+use Rattle.inode.proofs.Calls.{inode-refused, index-refused, read-refused, read-accepted, block-stages, block-in}
 use borrow.Author.Needs.{needs}
 use Rattle.inode.proofs.block_check.Statement.{statement}
 use Rattle.inode.proofs.block_check.Tie as tie
@@ -13,7 +13,7 @@ enum-known-c : tie.Need-enum-known-c
 enum-known-c c = search needs
 
 returns : tie.Need-returns
-returns c = inode-refused _ _ _ (c .before .before .before .inode-check .ensures) _ _ (c .before .c .given .1)
+returns c = inode-refused (block-stages _ _ _ _) _ (c .before .before .before .inode-check .ensures) (c .before .c .given .1)
 
 enum-told : tie.Need-enum-told
 enum-told c = search needs
@@ -32,7 +32,7 @@ returns-2 c =
     let x = c .before .before .before in
     let l = x .before in
     let t = l .before in
-    index-refused _ _ _ (t .before .before .inode-check .ensures) _ _ (t .enum-told .given .1) _ (l .file-length .ensures .0) _
+    index-refused (block-stages _ _ _ _) _ (t .before .before .inode-check .ensures) (t .enum-told .given .1) _ (l .file-length .ensures .0) _
     (x .index-check .ensures) (c .before .d .given .1)
 
 enum-told-2 : tie.Need-enum-told-2
@@ -59,9 +59,8 @@ part-file-block-check-end c =
     let l = x .before in
     let t = l .before in
     let n = t .before .before in
-    let a = n .before .before .before .before .args in
     let b =
-    block-in _ _ _ (n .inode-check .ensures) (a .k) (a .block .now) (t .enum-told .given .1) _ (l .file-length .ensures .0) _
+    block-in _ _ _ _ (n .inode-check .ensures) (t .enum-told .given .1) _ (l .file-length .ensures .0) _
     (x .index-check .ensures) (c .enum-told2 .given .1) in
     omega (arith, b .1)
 
@@ -72,9 +71,8 @@ file-block-check-requires c κs =
     let l = x .before in
     let t = l .before in
     let n = t .before .before in
-    let a = n .before .before .before .before .args in
     let b =
-    block-in _ _ _ (n .inode-check .ensures) (a .k) (a .block .now) (t .enum-told .given .1) _ (l .file-length .ensures .0) _
+    block-in _ _ _ _ (n .inode-check .ensures) (t .enum-told .given .1) _ (l .file-length .ensures .0) _
     (x .index-check .ensures) (u .enum-told2 .given .1) in
     b .0
 
@@ -90,8 +88,9 @@ returns-3 c =
     let t = l .before in
     let n = t .before .before in
     let a = n .before .before .before .before .args in
-    block-refused _ _ _ (n .inode-check .ensures) _ _ (t .enum-told .given .1) _ (l .file-length .ensures .0) _
-    (x .index-check .ensures) (u .enum-told2 .given .1) _ (hash-lent (a .inode .now) 5 (a .k)) _ (b .file-block-check .ensures) (c .before .e .given .1)
+    read-refused (block-stages _ _ _ _) _ (n .inode-check .ensures) (t .enum-told .given .1) _ (l .file-length .ensures .0) _
+    (x .index-check .ensures) (u .enum-told2 .given .1) _
+    (hash-lent (a .inode .now) 5 (a .k) _ _ _ (b .file-block-check .ensures)) (c .before .e .given .1)
 
 enum-told-3 : tie.Need-enum-told-3
 enum-told-3 c = search needs
@@ -108,8 +107,9 @@ returns-4 c =
     let t = l .before in
     let n = t .before .before in
     let a = n .before .before .before .before .args in
-    block-accepted _ _ _ (n .inode-check .ensures) _ _ (t .enum-told .given .1) _ (l .file-length .ensures .0) _
-    (x .index-check .ensures) (u .enum-told2 .given .1) _ (hash-lent (a .inode .now) 5 (a .k)) _ (b .file-block-check .ensures) (c .enum-told3 .given .1)
+    read-accepted (block-stages _ _ _ _) _ (n .inode-check .ensures) (t .enum-told .given .1) _ (l .file-length .ensures .0) _
+    (x .index-check .ensures) (u .enum-told2 .given .1) _
+    (hash-lent (a .inode .now) 5 (a .k) _ _ _ (b .file-block-check .ensures)) (c .enum-told3 .given .1)
 
 pub block-check-spec : {M : Type 1} → statement M
 block-check-spec =
