@@ -33,8 +33,8 @@
  *     sundr_compare              8        sundr_lookup             880
  *     sundr_check            2,244        sundr_lookup_many      1,216
  *     sundr_server_make_at      24        sundr_block_check        672
- *     sundr_server_list_at   1,800        sundr_block_choose       656
- *     sundr_server_commit      612
+ *     sundr_server_list_at   1,800        sundr_large_block_check  720
+ *     sundr_server_commit      612        sundr_block_choose       656
  */
 #ifndef SUNDR_H
 #define SUNDR_H
@@ -47,9 +47,9 @@ extern "C" {
 #endif
 
 /* The version of the library that this header belongs to. */
-#define SUNDR_VERSION "0.8.0"
+#define SUNDR_VERSION "0.9.0"
 #define SUNDR_VERSION_MAJOR 0
-#define SUNDR_VERSION_MINOR 8
+#define SUNDR_VERSION_MINOR 9
 #define SUNDR_VERSION_PATCH 0
 
 /* The numbers in bits 0 to 7 of an answer. */
@@ -470,13 +470,60 @@ uint64_t sundr_block_check(const uint8_t *handle, size_t handle_len,
 	const uint8_t *inode, size_t inode_len, uint32_t index,
 	const uint8_t *block, size_t block_len);
 
+/*
+ * The bytes of a large file's inode and of its indirect block, the longest large file, and how many
+ * of its blocks the inode itself names.
+ */
+#define SUNDR_LARGE_INODE_LEN 549
+#define SUNDR_INDIRECT_LEN 4097
+#define SUNDR_LARGE_FILE_MAX_LEN 1179648
+#define SUNDR_DIRECT_BLOCKS 16
+
+/*
+ * An inode of a large file, 549 bytes: the byte 11; the length of the file, 4 bytes, big-endian; the
+ * SHA-256 of each of its first sixteen blocks of 8,192 bytes, of which the file's last holds the
+ * rest, and zeros up to the sixteenth; then, from byte 517 on, the SHA-256 of its indirect block, or
+ * 32 zeros where sixteen blocks suffice, and only there. The SHA-256 of the inode is the file
+ * handle. A file of up to 131,072 bytes may have an inode of this kind or of the other; each has a
+ * call of its own, which refuses the other.
+ *
+ * An indirect block, 4,097 bytes: the byte 12; then the SHA-256 of each block of the file from the
+ * seventeenth on, that is of block 16 + j at byte 1 + 32 * j, and zeros up to the 128th.
+ */
+
+/*
+ * sundr_large_block_check: whether a block is the one of that index, from 0, of a large file.
+ *
+ * Reads the file handle, the file's inode, the index, the indirect block, and the block. Where index
+ * is below 16 the inode names the block, and no indirect block is given, also where the file has
+ * one; from 16 on it is given whole. Accepted: the first result is the block's offset in the file,
+ * 8,192 * index, and the second is block_len.
+ *
+ * Refused; tried in this order:
+ *   SUNDR_LENGTH       handle_len is not 32, or inode_len is not 549.
+ *   SUNDR_WRONG_HASH   the hash of the inode is not the file handle.
+ *   SUNDR_MALFORMED    the inode is not well formed.
+ *   SUNDR_NO_BLOCK     index is not below the file's number of blocks.
+ *   SUNDR_LENGTH       first 2: indirect_len is not 0 for an index below 16, or is not 4,097 for any
+ *                      other.
+ *   SUNDR_WRONG_HASH   first 2: the hash of the indirect block is not the inode's.
+ *   SUNDR_MALFORMED    first 2: the indirect block is not well formed, for a file of this length.
+ *   SUNDR_LENGTH       first 1: block_len is not the length of that block.
+ *   SUNDR_WRONG_HASH   first 1: the hash of the block is not the one that the inode or the indirect
+ *                      block has for it.
+ */
+uint64_t sundr_large_block_check(const uint8_t *handle, size_t handle_len,
+	const uint8_t *inode, size_t inode_len, uint32_t index,
+	const uint8_t *indirect, size_t indirect_len,
+	const uint8_t *block, size_t block_len);
+
 /* The longest part that sundr_block_choose() takes. */
 #define SUNDR_PART_MAX_LEN 65536
 
 /*
  * sundr_block_choose: which of two parts is the block of a wanted hash, the server's reply or what
- * the caller has cached. A block is whatever a hash names: a block of an i-table, an inode, a block
- * of a file.
+ * the caller has cached. A block is whatever a hash names: a block of an i-table, an inode, an
+ * indirect block, a block of a file.
  *
  * Reads the wanted hash, the reply and the cached part. An empty part means that it is not there,
  * also where the hash of no bytes is wanted. Accepted: the first result is 0, and the reply is the

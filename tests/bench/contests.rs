@@ -48,10 +48,16 @@ const fn openssl(name: &'static str, features: &'static str, sha: bool) -> Entry
 
 const REFERENCE: &str = "second implementation, rustc -O";
 const HASHES: &str = "its hashes alone";
+const ITABLE: [Entry; 2] = [entry("libsundr.a", "itable_sundr"), entry(HASHES, "itable_hashes")];
 const CHOOSERS: [Entry; 2] = [entry("libsundr.a", "choose_sundr"), entry(HASHES, "choose_hashes")];
 const MANY: Entry = entry("libsundr.a", "many_sundr");
 const MANY_SINGLES: Entry = entry("64 single lookups", "many_singles");
 const MANY_HASHES: Entry = entry(HASHES, "many_hashes");
+
+/// What is done with an i-table or a file; the size, of all that is hashed, says what, as itable_work.h has it.
+const fn itable(title: &'static str, call: &'static str, size: &'static [usize; 1]) -> Contest {
+    Contest { title, call, measure: Measure::Bytes, sizes: size, rows: size, go: 2 << 20, entries: &ITABLE }
+}
 
 /// A choice between two parts of the same length, which the title has; the size is what is hashed.
 const fn choice(title: &'static str, size: &'static [usize; 1]) -> Contest {
@@ -79,7 +85,7 @@ const fn many(title: &'static str, questions: usize, size: &'static [usize; 1], 
     }
 }
 
-pub const CONTESTS: [Contest; 18] = [
+pub const CONTESTS: [Contest; 20] = [
     Contest {
         title: "SHA-256",
         call: "sundr_sha256",
@@ -143,24 +149,8 @@ pub const CONTESTS: [Contest; 18] = [
         go: 500_000,
         entries: &[entry("libsundr.a", "commit_sundr"), entry(REFERENCE, "commit_reference")],
     },
-    Contest {
-        title: "An i-table of 4,096 files",
-        call: "sundr_table_write",
-        measure: Measure::Bytes,
-        sizes: &[273 * 642],
-        rows: &[273 * 642],
-        go: 2 << 20,
-        entries: &[entry("libsundr.a", "itable_sundr"), entry(HASHES, "itable_hashes")],
-    },
-    Contest {
-        title: "A lookup along three blocks",
-        call: "sundr_lookup",
-        measure: Measure::Bytes,
-        sizes: &[3 * 642],
-        rows: &[3 * 642],
-        go: 2 << 20,
-        entries: &[entry("libsundr.a", "itable_sundr"), entry(HASHES, "itable_hashes")],
-    },
+    itable("An i-table of 4,096 files", "sundr_table_write", &[273 * 642]),
+    itable("A lookup along three blocks", "sundr_lookup", &[3 * 642]),
     // Of 4,096 files. A block is hashed unless it is, byte for byte, that at the same depth of the question before: of
     // the 192 blocks of 64 paths, 8 are hashed where the files are neighbours, and 129 where only the root stays.
     many("64 questions, neighbouring files", 64, &[8 * 642], &[MANY, MANY_SINGLES]),
@@ -168,15 +158,10 @@ pub const CONTESTS: [Contest; 18] = [
     many("64 questions, files spread evenly", 64, &[81 * 642], &[MANY, MANY_SINGLES, MANY_HASHES]),
     many("64 questions, only the root alike", 64, &[129 * 642], &[MANY, MANY_HASHES]),
     many("One question of three blocks", 1, &[3 * 642], &[MANY, MANY_HASHES]),
-    Contest {
-        title: "A check of an inode and a block",
-        call: "sundr_block_check",
-        measure: Measure::Bytes,
-        sizes: &[517 + 8_192],
-        rows: &[517 + 8_192],
-        go: 2 << 20,
-        entries: &[entry("libsundr.a", "itable_sundr"), entry(HASHES, "itable_hashes")],
-    },
+    itable("A check of an inode and a block", "sundr_block_check", &[517 + 8_192]),
+    // The block is the file's only one, or its seventeenth: in no other file have as many hashes to be zero.
+    itable("A direct read of a large file", "sundr_large_block_check", &[549 + 8_192]),
+    itable("An indirect read of a large file", "sundr_large_block_check", &[549 + 4_097 + 8_192]),
     // The reply is the wanted block; or it is not, and the cached part is, and both are hashed.
     choice("The reply chosen, 642 bytes", &[642]),
     choice("The reply chosen, 8,192 bytes", &[8_192]),

@@ -16,6 +16,14 @@ void work(void)
 	case LOOKUP:
 		answer = sundr_lookup(root, sizeof root, numbers[4095], path, sizeof path, hash, sizeof hash);
 		break;
+	case DIRECT_READ:
+		answer = sundr_large_block_check(large, sizeof large, large_inode, sizeof large_inode, 0,
+			NULL, 0, block, sizeof block);
+		break;
+	case INDIRECT_READ:
+		answer = sundr_large_block_check(large, sizeof large, large_inode, sizeof large_inode, 16,
+			indirect, sizeof indirect, block, sizeof block);
+		break;
 	default:
 		answer = sundr_block_check(file, sizeof file, inode, sizeof inode, 0, block, sizeof block);
 	}

@@ -168,6 +168,24 @@ static void check_other_block(void)
 	answer = sundr_block_check(file_handle, sizeof file_handle, inode, sizeof inode, 0, message, sizeof block);
 }
 
+static void check_direct_block(void)
+{
+	answer = sundr_large_block_check(large_handle, sizeof large_handle, large_inode, sizeof large_inode, 0,
+		NULL, 0, block, sizeof block);
+}
+
+static void check_indirect_block(void)
+{
+	answer = sundr_large_block_check(large_handle, sizeof large_handle, large_inode, sizeof large_inode, 16,
+		indirect, sizeof indirect, block, sizeof block);
+}
+
+static void check_other_indirect_block(void)
+{
+	answer = sundr_large_block_check(large_handle, sizeof large_handle, large_inode, sizeof large_inode, 16,
+		indirect, sizeof indirect, message, sizeof block);
+}
+
 /* The inode has the block's hash, after its first five bytes. */
 static void choose_reply(void)
 {
@@ -224,6 +242,11 @@ static const struct {
 	{"sundr_lookup_many", "65 questions", look_up_65, ANSWER(SUNDR_LENGTH, 0, 0)},
 	{"sundr_block_check", "8,192 bytes", check_block, ANSWER(SUNDR_ACCEPTED, 0, 8192)},
 	{"sundr_block_check", "8,192 other bytes", check_other_block, ANSWER(SUNDR_WRONG_HASH, 1, 0)},
+	{"sundr_large_block_check", "8,192 bytes", check_direct_block, ANSWER(SUNDR_ACCEPTED, 0, 8192)},
+	{"sundr_large_block_check", "8,192 bytes, through the indirect block", check_indirect_block,
+		ANSWER(SUNDR_ACCEPTED, 131072, 8192)},
+	{"sundr_large_block_check", "8,192 other bytes, through the indirect block", check_other_indirect_block,
+		ANSWER(SUNDR_WRONG_HASH, 1, 0)},
 	{"sundr_block_choose", "8,192 bytes, the reply", choose_reply, ANSWER(SUNDR_ACCEPTED, 0, 8192)},
 	{"sundr_block_choose", "8,192 bytes, cached", choose_cached, ANSWER(SUNDR_ACCEPTED, 1, 8192)},
 	{"sundr_block_choose", "8,192 bytes twice, neither wanted", choose_neither, ANSWER(SUNDR_WRONG_HASH, 0, 0)},

@@ -35,8 +35,9 @@ static uint8_t handles[4096 * 32], path[3 * 642], altered[3 * 642], i_handle[32]
 static uint64_t asked[65], absent[64];
 static uint8_t counts[65], paths[65 * 3 * 642], altered_paths[64 * 3 * 642];
 
-/* A file of one block. */
+/* A file of one block; and one of seventeen such blocks, the last through the indirect block. */
 static uint8_t inode[517], block[8192], file_handle[32];
+static uint8_t large_inode[549], indirect[4097], large_handle[32];
 
 /* All that the calls write. The record is committed to a server of its own. */
 static struct written {
@@ -117,6 +118,21 @@ static void fill_file(void)
 	sundr_sha256(inode, sizeof inode, file_handle, sizeof file_handle);
 }
 
+/* After the file of one block, whose hash is that of each of these. */
+static void fill_large_file(void)
+{
+	size_t i;
+
+	large_inode[0] = 11;
+	put(large_inode + 1, 17 * sizeof block);
+	for (i = 0; i < 16; i++)
+		memcpy(large_inode + 5 + 32 * i, inode + 5, 32);
+	indirect[0] = 12;
+	memcpy(indirect + 1, inode + 5, 32);
+	sundr_sha256(indirect, sizeof indirect, large_inode + 517, 32);
+	sundr_sha256(large_inode, sizeof large_inode, large_handle, sizeof large_handle);
+}
+
 /* Makes ready for all the cases: all that they write is as if none had been made. */
 static void prepare_cases(void)
 {
@@ -128,6 +144,7 @@ static void prepare_cases(void)
 	fill_table();
 	fill_questions();
 	fill_file();
+	fill_large_file();
 	memset(&written, 0x5a, sizeof written);
 	written.server = server;
 }

@@ -64,6 +64,17 @@ extern "C" {
         block: *const u8,
         block_len: usize,
     ) -> u64;
+    pub fn sundr_large_block_check(
+        handle: *const u8,
+        handle_len: usize,
+        inode: *const u8,
+        inode_len: usize,
+        index: u32,
+        indirect: *const u8,
+        indirect_len: usize,
+        block: *const u8,
+        block_len: usize,
+    ) -> u64;
 
     pub fn sundr_block_choose(
         wanted: *const u8,

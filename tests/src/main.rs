@@ -1,19 +1,24 @@
 //! Differential tests: each call of libsundr.a against a second implementation, written from
 //! the papers alone. A piece has a file here with its checks, and one in `reference/`.
 
+mod alike;
 mod asked;
 mod bounds;
 mod check;
 mod choose;
 mod compare;
 mod desk;
+mod faults;
 mod ffi;
+mod files;
 mod guarded;
 mod handed;
 mod histories;
+mod indirect;
 mod inode;
 mod itable;
 mod kinds;
+mod large;
 mod lists;
 mod lookup;
 mod many;
@@ -36,7 +41,7 @@ use std::sync::atomic::{AtomicUsize, Ordering};
 use std::thread;
 
 /// The checks of each piece.
-const PIECES: [fn(&mut Runner); 15] = [
+const PIECES: [fn(&mut Runner); 19] = [
     sha256::checks,
     compare::checks,
     check::checks,
@@ -50,6 +55,10 @@ const PIECES: [fn(&mut Runner); 15] = [
     shared::checks,
     mixed::checks,
     inode::checks,
+    large::checks,
+    indirect::checks,
+    faults::checks,
+    alike::checks,
     choose::checks,
     handed::checks,
 ];

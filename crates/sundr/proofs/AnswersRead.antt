@@ -10,7 +10,7 @@ use Rattle.sha256.specs.Hash.{hash}
 use Rattle.sundr.specs.Read.{IsReadPlain, AnswersRead}
 use Rattle.sundr.proofs.Fits.{small-fits, plain-read}
 use Rattle.sundr.proofs.ReadProtocol.{check-read, compare-read, make-read, list-read, commit-read}
-use Rattle.sundr.proofs.ReadTable.{write-read, lookup-read, many-read, block-read}
+use Rattle.sundr.proofs.ReadTable.{write-read, lookup-read, many-read, block-read, large-read}
 use Rattle.sundr.proofs.ReadChoose.{choose-read}
 
 sha256-read : (message : List ℕ) (room : ℕ) → IsReadPlain (hash message room)
@@ -32,5 +32,6 @@ answers-read =
       lookup = lookup-read;
       many = many-read;
       block = block-read;
+      large-block = large-read;
       choose = choose-read;
     }

@@ -21,10 +21,13 @@ use Rattle.itable.specs.Many.{pathAt, many}
 use Rattle.itable.specs.ManyMeaning.{WhyMany, lengths as unfit, question}
 use Rattle.itable.specs.Inode.{Span, fileLength, blockCheck}
 use Rattle.itable.specs.InodeMeaning as files
+use Rattle.itable.specs.LargeInode.{largeCheck}
+use Rattle.itable.specs.LargeMeaning as large
 use Rattle.itable.proofs.AtMostBlocks.{at-most-blocks}
 use Rattle.itable.proofs.LookupMeans.{lookup-means}
 use Rattle.itable.proofs.ManyMeans.{many-means}
 use Rattle.itable.proofs.BlockCheckMeans.{block-check-means}
+use Rattle.itable.proofs.LargeCheckMeans.{large-check-means}
 use Rattle.sundr.specs.Lookup.{lookedUp, isFound}
 use Rattle.sundr.specs.Read.{IsRead, IsReadPlain}
 use Rattle.sundr.proofs.Fits.{Fits, small, small-fits, each-fits, result-read, refusal-read, answer-read, in-order-read}
@@ -88,7 +91,16 @@ module _ (handle numbers counts paths : List ℕ) (room : ℕ) where
       answer-read (λ a. 0) (λ a. 0) (many handle numbers counts paths room) (λ a e. (omega arith, omega arith))
       (λ n q p e. many-fits n q p (many-means handle numbers counts paths room .1 n q p .0 e))
 
--- A block that is accepted lies in its file, of 131,072 bytes at most.
+-- A block that is accepted lies in its file, of 1,179,648 bytes at most.
+module _ (inode : List ℕ) (k : ℕ) (block : List ℕ) where
+  span-fits :
+      fileLength inode ≤ 1179648 → files.HasBlock inode k → files.BlockSize inode k block →
+      (a : Span) → (a .offset ≡ 8192 * k) × (a .size ≡ length block) → (a .offset < 2 ^ 24) × (a .size < 2 ^ 32)
+  span-fits most has s a w =
+      let l : length block ≤ 1179648 =
+      elim (decLe (8192 * k + 8192) (fileLength inode)) [ yes y ↦ omega (arith, s .whole y) | no y ↦ omega (arith, s .rest (omega arith)) ] in
+      (omega (arith, w .0), omega (arith, w .1, l))
+
 module _ (handle inode : List ℕ) (k : ℕ) (block : List ℕ) where
   block-fits : (n p q : ℕ) → files.Why handle inode k block n p q → Fits n p q
   block-fits n p q (files.lengths f) = small 2 0 refl
@@ -98,18 +110,35 @@ module _ (handle inode : List ℕ) (k : ℕ) (block : List ℕ) where
   block-fits n p q (files.block-length w f) = small 2 1 refl
   block-fits n p q (files.block-not-named w f) = small 8 1 refl
 
-  span-fits :
-      (a : Span) → files.AllConditions handle inode k block × (a .offset ≡ 8192 * k) × (a .size ≡ length block) →
-      (a .offset < 2 ^ 24) × (a .size < 2 ^ 32)
-  span-fits a w =
-      let h : (8192 * k < fileLength inode) × (fileLength inode ≤ 131072) = (w .0 .0 .0 .1, w .0 .0 .0 .0 .1 .at-most) in
-      let s = w .0 .0 .1 in
-      let l : length block ≤ 131072 =
-      elim (decLe (8192 * k + 8192) (fileLength inode)) [ yes y ↦ omega (arith, s .whole y) | no y ↦ omega (arith, h, s .rest (omega arith)) ] in
-      (omega (arith, w .1, h), omega (arith, w .2, l))
-
   pub block-read : IsRead (λ (a : Span). a .offset) (λ a. a .size) (blockCheck handle inode k block)
   block-read =
       let m = block-check-means handle inode k block in
-      answer-read (λ (a : Span). a .offset) (λ a. a .size) (blockCheck handle inode k block) (λ a e. span-fits a (m .0 a .0 e))
+      answer-read (λ (a : Span). a .offset) (λ a. a .size) (blockCheck handle inode k block)
+      (λ a e.
+      let w = m .0 a .0 e in
+      let most : fileLength inode ≤ 131072 = w .0 .0 .0 .0 .1 .at-most in
+      span-fits inode k block (omega arith) (w .0 .0 .0 .1) (w .0 .0 .1) a (w .1, w .2))
       (λ n p q e. block-fits n p q (m .1 n p q .0 e))
+
+-- The same of a large file; the indirect block is place 2.
+module _ (handle inode : List ℕ) (k : ℕ) (indirect block : List ℕ) where
+  large-fits : (n p q : ℕ) → large.WhyLarge handle inode k indirect block n p q → Fits n p q
+  large-fits n p q (large.lengths f) = small 2 0 refl
+  large-fits n p q (large.not-named w f) = small 8 0 refl
+  large-fits n p q (large.not-formed w f) = small 3 0 refl
+  large-fits n p q (large.no-block w f) = small 10 0 refl
+  large-fits n p q (large.indirect-length w f) = small 2 2 refl
+  large-fits n p q (large.indirect-not-named w f) = small 8 2 refl
+  large-fits n p q (large.indirect-not-formed w f) = small 3 2 refl
+  large-fits n p q (large.block-length w f) = small 2 1 refl
+  large-fits n p q (large.block-not-named w f) = small 8 1 refl
+
+  pub large-read : IsRead (λ (a : Span). a .offset) (λ a. a .size) (largeCheck handle inode k indirect block)
+  large-read =
+      let m = large-check-means handle inode k indirect block in
+      answer-read (λ (a : Span). a .offset) (λ a. a .size) (largeCheck handle inode k indirect block)
+      (λ a e.
+      let w = m .0 a .0 e in
+      let b = w .0 .0 .0 .0 .0 .0 in
+      span-fits inode k block (b .0 .1 .at-most) (b .1) (w .0 .0 .1) a (w .1, w .2))
+      (λ n p q e. large-fits n p q (m .1 n p q .0 e))

@@ -13,6 +13,7 @@ use Rattle.protocol.specs.declared.Server.{Server}
 use Rattle.itable.specs.Write.{blocksGiven}
 use Rattle.itable.specs.Many.{many}
 use Rattle.itable.specs.Inode.{Span, blockCheck}
+use Rattle.itable.specs.LargeInode.{largeCheck}
 use Rattle.cache.specs.Choose.{choose}
 use Rattle.sundr.specs.Compare.{compared, standingNumber}
 use Rattle.sundr.specs.Choose.{partNumber, partLength}
@@ -66,4 +67,7 @@ pub record AnswersRead : Type 0 where
   pub block :
       (handle inode : List ℕ) (index : ℕ) (block : List ℕ) →
       IsRead (λ (a : Span). a .offset) (λ a. a .size) (blockCheck handle inode index block)
+  pub large-block :
+      (handle inode : List ℕ) (index : ℕ) (indirect block : List ℕ) →
+      IsRead (λ (a : Span). a .offset) (λ a. a .size) (largeCheck handle inode index indirect block)
   pub choose : (wanted reply cached : List ℕ) → IsRead partNumber (partLength reply cached) (choose wanted reply cached)

@@ -6,6 +6,7 @@ pub mod choose;
 pub mod inode;
 pub mod input;
 pub mod itable;
+pub mod large;
 pub mod many;
 pub mod server;
 pub mod sha256;
