@@ -70,18 +70,29 @@ static const struct block *copy(const uint8_t *hash, uint8_t *out)
 	return block;
 }
 
-struct reply ask_server(const uint8_t *i_handle, uint64_t number)
+struct reply ask_for_block(const uint8_t *i_handle, uint64_t number, uint32_t index)
 {
 	struct reply reply;
 	const struct block *block;
+	const uint8_t *hash = i_handle;
 
 	memset(&reply, 0, sizeof reply);
 	do {
-		block = copy(i_handle, reply.path + reply.path_len);
+		block = copy(hash, reply.path + reply.path_len);
 		reply.path_len += block->len;
-		i_handle = lead(block, number);
+		hash = lead(block, number);
 	} while (block->bytes[0] != LEAF);
-	reply.inode_len = copy(i_handle, reply.inode)->len;
-	reply.block_len = copy(reply.inode + 5, reply.block)->len;
+	reply.inode_len = copy(hash, reply.inode)->len;
+	hash = reply.inode + 5 + SUNDR_SHA256_LEN * index;
+	if (index >= SUNDR_DIRECT_BLOCKS) {
+		reply.indirect_len = copy(reply.inode + SUNDR_INODE_LEN, reply.indirect)->len;
+		hash = reply.indirect + 1 + SUNDR_SHA256_LEN * (index - SUNDR_DIRECT_BLOCKS);
+	}
+	reply.block_len = copy(hash, reply.block)->len;
 	return reply;
+}
+
+struct reply ask_server(const uint8_t *i_handle, uint64_t number)
+{
+	return ask_for_block(i_handle, number, 0);
 }

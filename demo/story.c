@@ -102,14 +102,14 @@ static const uint8_t *maintainers_record(const struct sent *accepted)
 	return accepted->list + SUNDR_VERSION_LEN * i;
 }
 
-/* The file handle, by a reply's path under an i-handle. */
-static uint64_t look_up(const uint8_t *i_handle, const struct reply *reply, uint8_t *file_handle)
+/* The handle of a file that is there, by a reply's path under an i-handle. */
+static uint64_t look_up(const uint8_t *i_handle, uint64_t number, const struct reply *reply, uint8_t *file_handle)
 {
-	uint64_t answer = sundr_lookup(i_handle, SUNDR_HANDLE_LEN, CHANNEL_TABLE,
+	uint64_t answer = sundr_lookup(i_handle, SUNDR_HANDLE_LEN, number,
 		reply->path, reply->path_len, file_handle, SUNDR_HANDLE_LEN);
 
 	if (sundr_refusal(answer) == SUNDR_ACCEPTED)
-		must(sundr_first(answer) == 1, "the channel table's place in the i-table");
+		must(sundr_first(answer) == 1, "the file's place in the i-table");
 	return answer;
 }
 
@@ -201,7 +201,7 @@ static void fetch(struct client *desk, struct sundr_server *server, const char *
 	uint8_t file_handle[SUNDR_HANDLE_LEN];
 	struct file file;
 
-	must_accept(look_up(sundr_i_handle(record), &reply, file_handle), "the reply's path");
+	must_accept(look_up(sundr_i_handle(record), CHANNEL_TABLE, &reply, file_handle), "the reply's path");
 	must_accept(read_file(desk, &reply, file_handle, &file), "the file");
 	must(file.block_len == strlen(due) && memcmp(file.block, due, strlen(due)) == 0, "the channel table");
 	if (how == SHOWN)
@@ -215,10 +215,12 @@ static void fetch(struct client *desk, struct sundr_server *server, const char *
 
 static void legend(void)
 {
-	tell("\nSUNDR: files on a server that nobody has to trust. A story in nine scenes.\n");
+	tell("\nSUNDR: files on a server that nobody has to trust. A story in ten scenes.\n");
 	tell("  user 0, the maintainer     keeps a driver tree on the server: %d files, of which file %d is",
 		FILES, CHANNEL_TABLE);
-	tell("                             the channel table, the radio channels that a board may use");
+	tell("                             the channel table, the radio channels that a board may use, and");
+	tell("                             file %d the firmware image, %d bytes that boards are flashed with",
+		IMAGE, IMAGE_LEN);
 	tell("  user 1, the release desk   fetches the channel table, and builds boards with it");
 	tell("  the server                 a rented machine, which stores what both send, and may lie\n");
 	tell("Each operation of a user ends with a version structure, a small record that this user signs. It");
@@ -367,7 +369,7 @@ static void try_reply(struct client *desk, struct sundr_server *server, const ch
 {
 	struct sent accepted = turn(desk, server, 0);
 	uint8_t file_handle[SUNDR_HANDLE_LEN];
-	uint64_t answer = look_up(sundr_i_handle(maintainers_record(&accepted)), reply, file_handle);
+	uint64_t answer = look_up(sundr_i_handle(maintainers_record(&accepted)), CHANNEL_TABLE, reply, file_handle);
 
 	if (sundr_refusal(answer) == SUNDR_ACCEPTED)
 		answer = sundr_block_check(file_handle, sizeof file_handle, reply->inode, reply->inode_len, 0,
@@ -433,7 +435,7 @@ static void a_file_that_is_denied(const struct sundr_server *server)
 	must(answer == 0, "no such file");
 	tell("  file %d   no such file, by the last leaf", STRAY);
 	reply = ask_server(i_handle, CHANNEL_TABLE);
-	answer = look_up(i_handle, &reply, file_handle);
+	answer = look_up(i_handle, CHANNEL_TABLE, &reply, file_handle);
 	must_refuse(answer, SUNDR_MALFORMED, 2, 0);
 	tell("  file %d   %d at %u   %s", CHANNEL_TABLE, sundr_refusal(answer), sundr_first(answer),
 		sundr_refusal_text(sundr_refusal(answer)));
@@ -446,7 +448,8 @@ static uint64_t fetch_from(struct client *desk, struct sundr_server *server, con
 	struct sent accepted = turn(desk, server, 0);
 	uint8_t file_handle[SUNDR_HANDLE_LEN];
 
-	must_accept(look_up(sundr_i_handle(maintainers_record(&accepted)), reply, file_handle), "the reply's path");
+	must_accept(look_up(sundr_i_handle(maintainers_record(&accepted)), CHANNEL_TABLE, reply, file_handle),
+		"the reply's path");
 	return read_file(desk, reply, file_handle, file);
 }
 
@@ -568,6 +571,66 @@ static void a_builds_start(struct client *desk, struct sundr_server *server, con
 		sundr_refusal_text(sundr_refusal(answer)));
 }
 
+/* A block of the firmware image, from a reply. */
+static uint64_t check_image(const uint8_t *file_handle, const struct reply *reply, uint32_t index)
+{
+	return sundr_large_block_check(file_handle, SUNDR_HANDLE_LEN, reply->inode, reply->inode_len, index,
+		reply->indirect, reply->indirect_len, reply->block, reply->block_len);
+}
+
+static void tell_read(const uint8_t *file_handle, const struct reply *reply, uint32_t index)
+{
+	uint64_t answer = check_image(file_handle, reply, index);
+
+	must_accept(answer, "a block of the image");
+	must(sundr_first(answer) == SUNDR_FILE_BLOCK_LEN * index && sundr_second(answer) == reply->block_len,
+		"the block's place in the image");
+	tell("  %-8u%-32s%u bytes, from byte %u on", index,
+		reply->indirect_len == 0 ? "the inode" : "the inode and indirect block",
+		sundr_second(answer), sundr_first(answer));
+}
+
+/* The last block, which has to be refused at this position. */
+static void tell_old(const uint8_t *file_handle, const char *what, const struct reply *reply, uint32_t position)
+{
+	uint64_t answer = check_image(file_handle, reply, IMAGE_LAST);
+
+	must_refuse(answer, SUNDR_WRONG_HASH, position, 0);
+	tell("  %-21s%d at %u   %s", what, sundr_refusal(answer), sundr_first(answer),
+		sundr_refusal_text(sundr_refusal(answer)));
+}
+
+static void the_firmware_image(struct client *desk, struct sundr_server *server, const struct sundr_server *old_disk)
+{
+	enum { DIRECT = 3 };
+	static const char due[] = "channels 1 to 14";
+	struct sent accepted = turn(desk, server, 0);
+	const uint8_t *i_handle = sundr_i_handle(maintainers_record(&accepted));
+	struct reply early = ask_for_block(i_handle, IMAGE, DIRECT), last = ask_for_block(i_handle, IMAGE, IMAGE_LAST);
+	struct reply old = ask_for_block(sundr_i_handle(old_disk->records), IMAGE, IMAGE_LAST);
+	uint8_t file_handle[SUNDR_HANDLE_LEN];
+
+	tell("\n10. The firmware image\n");
+	tell("The image has %d blocks. Its inode lists the hashes of the first %d, and that of an indirect block,",
+		IMAGE_LAST + 1, SUNDR_DIRECT_BLOCKS);
+	tell("which lists the others. So the release desk checks each block by itself, with no more than these:");
+	must_accept(look_up(i_handle, IMAGE, &last, file_handle), "the reply's path");
+	tell("  block   came with                       what is read");
+	tell_read(file_handle, &early, DIRECT);
+	tell_read(file_handle, &last, IMAGE_LAST);
+	must(memcmp(last.block, due, sizeof due) == 0, "the image's channels");
+	tell("The last block begins with \"%s\". Now the server sends that of the old disk's image,", due);
+	tell("then the old indirect block with it, which lists it, and then the old inode, which lists both. In a");
+	tell("large file, 0 is the inode, 1 the block and 2 the indirect block.");
+	memcpy(last.block, old.block, sizeof last.block);
+	tell_old(file_handle, "block", &last, 1);
+	memcpy(last.indirect, old.indirect, sizeof last.indirect);
+	tell_old(file_handle, "and indirect block", &last, 2);
+	memcpy(last.inode, old.inode, sizeof last.inode);
+	tell_old(file_handle, "and inode", &last, 0);
+	tell("However much of the old image fits together, no board is flashed with it.");
+}
+
 int main(int argc, char **argv)
 {
 	struct client maintainer = { .user = MAINTAINER };
@@ -589,6 +652,7 @@ int main(int argc, char **argv)
 	a_file_that_is_denied(&server);
 	from_the_cache(&maintainer, &desk, &server, &old_disk);
 	a_builds_start(&desk, &server, &old_disk);
+	the_firmware_image(&desk, &server, &old_disk);
 	tell("\nAll came out as told, in the library and, where a bar stands, in the desk program too.");
 	return 0;
 }

@@ -9,11 +9,14 @@
 
 enum { USERS = 2, MAINTAINER = 0, RELEASE_DESK = 1, FILES = 300, CHANNEL_TABLE = 4242 };
 
+/* The firmware image: its file, its length, and its last block, which begins with what the channel table says. */
+enum { IMAGE = 4300, IMAGE_LEN = 200000, IMAGE_LAST = (IMAGE_LEN - 1) / SUNDR_FILE_BLOCK_LEN };
+
 /* Ends the program with status 1 unless this holds. */
 void must(int holds, const char *what);
 
 /* The longest block of the story. */
-enum { BLOCK_MAX = SUNDR_TABLE_BLOCK_LEN };
+enum { BLOCK_MAX = SUNDR_FILE_BLOCK_LEN };
 
 /* What a client keeps of a file that it read: the inode, and the block. */
 struct cache {
@@ -43,17 +46,23 @@ struct sent {
 void show_desk(const struct client *client, const struct sent *sent, uint64_t answer, const uint8_t *next);
 extern const char *desk_program;
 
-/* blocks.c: the server's blocks, each under its hash, and what it replies when it is asked for a file. */
+/*
+ * blocks.c: the server's blocks, each under its hash, and what it replies when it is asked for a block of a file, with
+ * an indirect block where that is needed; or for a file, that is for its first block.
+ */
 struct reply {
 	uint8_t path[SUNDR_PATH_MAX_BLOCKS * SUNDR_TABLE_BLOCK_LEN];
 	size_t path_len;
-	uint8_t inode[SUNDR_INODE_LEN];
+	uint8_t inode[SUNDR_LARGE_INODE_LEN];
 	size_t inode_len;
+	uint8_t indirect[SUNDR_INDIRECT_LEN];
+	size_t indirect_len;
 	uint8_t block[BLOCK_MAX];
 	size_t block_len;
 };
 
 void upload_block(const uint8_t *bytes, size_t len, uint8_t *hash);
+struct reply ask_for_block(const uint8_t *i_handle, uint64_t number, uint32_t index);
 struct reply ask_server(const uint8_t *i_handle, uint64_t number);
 
 /* tree.c: a user's files, made into blocks and uploaded; the i-handle is all that stays with the user. */
