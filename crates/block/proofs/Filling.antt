@@ -4,11 +4,10 @@ use mathlib.Core.Bool.{true, false, _&&_}
 use mathlib.Core.List.{List, [], _∷_, _++_, append-assoc, append-nil}
 use mathlib.Core.Path.{_≡_, refl, sym, ap, _∙_}
 use native.Mathlib.Nat.{add-zero}
-use native.Mathlib.Numerals.{add-one}
 use native.Mathlib.Omega.{arith}
 use lib.Dec.{leb, eqb}
-use lib.ListN.{length, getD, take, drop, set, replicate, replicate-append-replicate, length-set, length-append, length-take, length-drop, drop-of-length-le}
-use lib.Seq.{take-suc-set, take-at, take-length}
+use lib.ListN.{length, getD, take, drop, set, replicate, length-set, length-append, length-take, length-drop, drop-of-length-le}
+use lib.Seq.{take-at, take-length}
 use borrow.Author.Tests.{eq-eqb, ne-eqb, le-leb, lt-leb, leb-true, eqb-true}
 use borrow.Rule.Slice.PartMut.{putMid}
 use Rattle.search.proofs.Bool.{both-true}
@@ -19,19 +18,6 @@ use Rattle.itable.specs.Block.{size}
 use Rattle.itable.specs.Table.{Level, slots, block, files}
 use Rattle.block.specs.Filled.{fits, filled}
 use Rattle.block.proofs.Lent.{mid-length, mid-next}
-
--- Zeros from a place on: none yet, and one more.
-pub uncleared : (from : ℕ) (o : List ℕ) → take from o ≡ take from o ++ replicate (from - from) 0
-uncleared from o = let z : from - from ≡ 0 = omega arith in rw (z, append-nil)
-
-pub cleared :
-    (from i : ℕ) (o l : List ℕ) → from ≤ i → i < length l → take i l ≡ take from o ++ replicate (i - from) 0 →
-    take (i + 1) (set l i 0) ≡ take from o ++ replicate (i + 1 - from) 0
-cleared from i o l h k e =
-    let n : i - from + 1 ≡ suc i - from = omega arith in
-    let r : replicate {A = ℕ} (i - from) 0 ++ replicate 1 0 ≡ replicate (suc i - from) 0 =
-    replicate-append-replicate (i - from) 1 0 ∙ ap (λ m. replicate {A = ℕ} m 0) n in
-    rw (add-one i, take-suc-set l i 0 k, e, append-assoc (take from o)) (ap (take from o ++_) r)
 
 -- A slot of 40 bytes: the number's eight, then the value.
 module _ (x : ℕ) (v o b : List ℕ) (lv : length v ≡ 32) (lo : length o ≡ 40) (eb : b ≡ bytes8 x) where

@@ -5,9 +5,9 @@ use crate::SIZE;
 use crate::SLOT;
 use crate::USED;
 ghost use mathlib.Core.Path.{_≡_};
-ghost use Prim.Native.Nat.{_-_, _*_, _≤_};
+ghost use Prim.Native.Nat.{_*_, _≤_};
 ghost use mathlib.Core.List.{_++_};
-ghost use lib.ListN.{length, take, replicate};
+ghost use lib.ListN.{length};
 ghost use Rattle.layout.specs.Bytes.{bytes8};
 ghost use Rattle.itable.specs.Table.{files, block};
 ghost use Rattle.block.specs.Filled.{fits as fitsOf, filled};
@@ -23,18 +23,6 @@ fn slot(number: u64, value: &[u8], out: &mut [u8])
     let b = layout::u64_bytes(number);
     bytes::copy(&b, out);
     bytes::copy(value, &mut out[VALUE..SLOT]);
-}
-
-// Sets the bytes from a place on to zero.
-fn clear(from: usize, out: &mut [u8])
-    requires { ⌜ from ≤ length (now out) ⌝ }
-    ensures { λ r. ⌜ now (out .exit) ≡ take from (now (out .entry)) ++ replicate (length (now (out .entry)) - from) 0 ⌝ }
-{
-    let mut i = from;
-    while i < out.len() {
-        out[i] = 0;
-        i += 1;
-    }
 }
 
 // Writes the block with these entries, each a number and 32 bytes. All of its bytes are written.
@@ -56,7 +44,7 @@ fn entries(kind: u8, numbers: &[u64], values: &[u8], out: &mut [u8])
         );
         j += 1;
     }
-    clear(FIRST_NUMBER + SLOT * u, out);
+    layout::clear(FIRST_NUMBER + SLOT * u, out);
 }
 
 // Whether these are the lengths of a block's numbers, values and bytes.

@@ -7,12 +7,12 @@ use mathlib.Core.Path.{_≡_, refl}
 use lib.ListN.{length}
 use Rattle.refusal.specs.Answer.{accepted}
 use Rattle.refusal.specs.Order.{Step}
-use Rattle.refusal.proofs.Means.{Means, Stage, in-append, concludes}
+use Rattle.refusal.proofs.Means.{Means, Stage, in-append, concludes, why-first, why-next}
 use Rattle.itable.specs.Inode.{hashAt, inodeSize, fileLength, wellFormed, Span, inodeSteps, indexSteps, blockSteps, blockCheck}
 use Rattle.itable.specs.InodeMeaning.{WellFormed, BlockNamed, ToBlock, AllConditions, Why, BlockCheckMeans}
 use Rattle.itable.specs.InodeMeaning.{lengths, not-named, not-formed, no-block, block-length, block-not-named}
 use Rattle.itable.proofs.FileBlocks.{fits-means}
-use Rattle.itable.proofs.FileStages.{InodeRefused, inode-stages, BlockRefused, block-stages, why-first, why-next, exactly}
+use Rattle.itable.proofs.FileStages.{InodeRefused, inode-stages, BlockRefused, block-stages, exactly}
 
 pub formed-means : (inode : List ℕ) → (wellFormed inode ≡ true) ↔ WellFormed inode
 unfolding wellFormed

@@ -10,18 +10,13 @@ use native.Mathlib.Omega.{arith}
 use lib.Dec.{ltb, eqb}
 use lib.ListN.{length, getD}
 use borrow.Author.Tests.{leb-true, ltb-true, eqb-true, le-leb, lt-ltb, eq-eqb}
-use Rattle.search.proofs.Search.{every-at, every-intro}
-use Rattle.layout.specs.Strings.{same, zeros}
-use Rattle.layout.proofs.Strings.{same-true, same-refl}
+use Rattle.layout.proofs.Zeros.{zeros-mean}
 use Rattle.itable.specs.Inode.{fileBlocks, blockLength, restZero, holds, fileLength}
 use Rattle.itable.specs.InodeMeaning.{RestZero, HasBlock, BlockSize}
 
--- Equal numbers, equal bytes, and two tests that both pass.
+-- Equal numbers, and two tests that both pass.
 pub equal-means : (x y : ℕ) → (eqb x y ≡ true) ↔ (x ≡ y)
 equal-means x y = (eqb-true x y, eq-eqb x y)
-
-pub same-means : (xs ys : List ℕ) → (same xs ys ≡ true) ↔ (xs ≡ ys)
-same-means xs ys = (same-true xs ys, λ e. rw e (same-refl ys))
 
 pub both-mean : {P Q : Type 0} (a b : Bool) → (a ≡ true) ↔ P → (b ≡ true) ↔ Q → ((a && b) ≡ true) ↔ (P × Q)
 both-mean a b p q = Iff·trans (and-eq-true-iff a b) (Iff·and p q)
@@ -31,17 +26,7 @@ pub holds-means : (n len : ℕ) → (holds n len ≡ true) ↔ (len ≤ 8192 * n
 unfolding holds
 holds-means n len = (leb-true len (8192 * n), le-leb len (8192 * n))
 
--- Bytes that are zero; and so each byte of each of n hashes from the last block's on.
-pub zeros-mean : (b : List ℕ) (at n : ℕ) → (zeros b at n ≡ true) ↔ ((j : ℕ) → j < n → getD b (at + j) 0 ≡ 0)
-unfolding zeros
-zeros-mean b at n =
-    let zero : ℕ → Bool = λ x. eqb (getD b x 0) 0 in (
-      λ e j l. eqb-true (getD b (at + j) 0) 0 (every-at zero at n e (at + j) (omega arith) (omega arith)),
-      λ f.
-          every-intro zero at n
-          (λ x l h. let e : at + (x - at) ≡ x = omega arith in eq-eqb (getD b x 0) 0 (rw e at (f (x - at) (omega arith)))),
-    )
-
+-- Bytes that are zero, of each of n hashes from the last block's on.
 pub rest-means : (b : List ℕ) (at n len : ℕ) → (restZero b at n (fileBlocks len) ≡ true) ↔ RestZero b at n len
 unfolding restZero
 rest-means b at n len =

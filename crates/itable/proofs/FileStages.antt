@@ -3,19 +3,20 @@
 use Prim.Native.Nat.{ℕ}
 use mathlib.Core.Bool.{Bool, true}
 use mathlib.Core.List.{List, [], _∷_, _++_, append-assoc}
-use mathlib.Core.Logic.{_↔_, Iff·trans, ⊎-elim}
-use mathlib.Core.Path.{_≡_, sym, ap, ap₂, _∙_}
+use mathlib.Core.Logic.{_↔_, Iff·trans}
+use mathlib.Core.Path.{_≡_, refl, ap₂}
 use lib.Dec.{ltb, eqb}
 use lib.ListN.{length}
 use borrow.Author.Tests.{eqb-true, eq-eqb}
 use Rattle.layout.specs.Strings.{same}
+use Rattle.layout.proofs.Strings.{same-means}
 use Rattle.refusal.specs.Answer.{Answer, accepted, refused}
 use Rattle.refusal.specs.Order.{Step, unless}
-use Rattle.refusal.proofs.Means.{Means, Stage, Either, Unless, alike, means-accepted, means-refused, and-then, tests-mean, test-means}
+use Rattle.refusal.proofs.Means.{Means, Stage, Either, Unless, alike, and-then, tests-mean, test-means, exactly as exactly-one}
 use Rattle.sha256.specs.Sha256.{sha256}
 use Rattle.itable.specs.Inode.{fileBlocks, blockLength, fileLength, Span, indexSteps, blockSteps}
 use Rattle.itable.specs.InodeMeaning.{Named, HasBlock, BlockSize}
-use Rattle.itable.proofs.FileBlocks.{same-means, has-block, size-means}
+use Rattle.itable.proofs.FileBlocks.{has-block, size-means}
 
 -- Handle, inode and index, over the inode's size and what makes it well formed.
 module _ (handle inode : List ℕ) (size : ℕ) where
@@ -74,27 +75,13 @@ module _ (inode : List ℕ) (k : ℕ) (block : List ℕ) (Hashed : Type 0) where
       (and-then ts (unless fits 2 1 0 ∷ []) M (λ w. test-means fits 2 1 0 (size-means inode k block (has w))))
       (λ w. test-means hashed 8 1 0 (Iff·trans (same-means (sha256 block) hash) named)))
 
--- The reason R of each refusal, by that of a first test and of one test more.
-module _ (R : ℕ → ℕ → ℕ → Type 0) {i j k : ℕ} where
-  pub why-first : {X : Type 0} → ((X → ⊥) → R i j k) → (n p q : ℕ) → Unless X i j k n p q → R n p q
-  why-first f n p q w = rw (w .1, w .2, w .3) (f (w .0))
-
-  pub why-next :
-      {P X : Type 0} {Q : ℕ → ℕ → ℕ → Type 0} → ((n p q : ℕ) → Q n p q → R n p q) → (P → (X → ⊥) → R i j k) →
-      (n p q : ℕ) → Either P Q (Unless X i j k) n p q → R n p q
-  why-next f g n p q = ⊎-elim (f n p q) (λ w. why-first (g (w .0)) n p q (w .1))
-
 -- The answer, where what the stages give is what the statement calls its reasons.
 pub exactly :
     {x : Answer Span} {o l : ℕ} {P : Type 0} {Q R : ℕ → ℕ → ℕ → Type 0} → Means x (record { offset = o; size = l }) P Q →
     ((n p q : ℕ) → Q n p q → R n p q) → ((n p q : ℕ) → R n p q → Q n p q) →
     ((a : Span) → (x ≡ accepted a) ↔ (P × (a .offset ≡ o) × (a .size ≡ l))) × ((n p q : ℕ) → (x ≡ refused n p q) ↔ R n p q)
-exactly m why given = (
-  λ a. (
-    λ e. let w = means-accepted m e in (w .0, ap (λ (s : Span). s .offset) (w .1), ap (λ (s : Span). s .size) (w .1)),
-    λ w.
-        m .accepts (w .0) ∙
-        ap accepted (ap₂ (λ (o l : ℕ). record { offset = o; size = l }) (sym (w .1)) (sym (w .2))),
-  ),
-  λ n p q. (λ e. why n p q (means-refused m e), λ w. m .refuses (given n p q w)),
-)
+exactly {o = o} {l = l} m why given =
+    let g =
+    exactly-one m (λ (a : Span). (a .offset ≡ o) × (a .size ≡ l)) (λ p. (refl, refl))
+    (λ a p w. ap₂ (λ (o l : ℕ). record { offset = o; size = l }) (w .0) (w .1)) why given in
+    (λ a. (λ e. let w = g .0 a .0 e in (w .0, w .1 .0, w .1 .1), λ w. g .0 a .1 (w .0, (w .1, w .2))), g .1)

@@ -13,8 +13,10 @@ use lib.ListN.{length, getD}
 use borrow.Author.Tests.{eqb-true, eq-eqb, lt-ltb, le-ltb}
 use Rattle.search.proofs.Bool.{not-both}
 use Rattle.layout.specs.Strings.{same, zeros}
+use Rattle.layout.proofs.Strings.{same-means}
+use Rattle.layout.proofs.Zeros.{zeros-mean}
 use Rattle.refusal.specs.Order.{Step}
-use Rattle.refusal.proofs.Means.{Means, Stage, Either, Unless, and-then, concludes, tests-mean, test-means}
+use Rattle.refusal.proofs.Means.{Means, Stage, Either, Unless, and-then, concludes, tests-mean, test-means, why-first, why-next}
 use Rattle.sha256.specs.Sha256.{sha256}
 use Rattle.itable.specs.Inode.{fileBlocks, hashAt, restZero, holds, fileLength, Span, indexSteps}
 use Rattle.itable.specs.InodeMeaning.{RestZero}
@@ -24,8 +26,8 @@ use Rattle.itable.specs.LargeMeaning.{LargeFormed, IndirectSize, Indirec
 use Rattle.itable.specs.LargeMeaning.{ToBlock, ToIndirectSize, ToIndirectNamed, ToIndirect, LargeConditions, WhyLarge, LargeCheckMeans}
 use Rattle.itable.specs.LargeMeaning.{lengths, not-named, not-formed, no-block, indirect-length, indirect-not-named, indirect-not-formed}
 use Rattle.itable.specs.LargeMeaning.{block-length, block-not-named}
-use Rattle.itable.proofs.FileBlocks.{equal-means, same-means, both-mean, holds-means, zeros-mean, rest-means, fits-means}
-use Rattle.itable.proofs.FileStages.{InodeRefused, inode-stages, BlockRefused, block-stages, why-first, why-next, exactly}
+use Rattle.itable.proofs.FileBlocks.{equal-means, both-mean, holds-means, rest-means, fits-means}
+use Rattle.itable.proofs.FileStages.{InodeRefused, inode-stages, BlockRefused, block-stages, exactly}
 
 -- Two tests that pass or fail together: each condition holds exactly where the other does.
 alike-mean : {P Q : Type 0} (a b : Bool) → (a ≡ true) ↔ P → (b ≡ true) ↔ Q → (Bool·beq a b ≡ true) ↔ (Q ↔ P)

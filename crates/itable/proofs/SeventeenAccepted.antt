@@ -11,7 +11,7 @@ use lib.Seq.{take-at, drop-at, take-all, getD-take, getD-drop}
 use Rattle.layout.specs.Bytes.{bytes4}
 use Rattle.layout.proofs.Bytes.{four-bytes4, length-bytes4, four-behind}
 use Rattle.layout.specs.Strings.{zeros}
-use Rattle.layout.proofs.Zeros.{zeros-read, zeros-behind}
+use Rattle.layout.proofs.Zeros.{zeros-read, zeros-behind, zeros-mean}
 use Rattle.sha256.specs.Sha256.{sha256}
 use Rattle.sha256.proofs.Laws.{sha256-length}
 use Rattle.itable.specs.Inode.{fileBlocks, hashAt, restZero, fileLength}
@@ -19,7 +19,7 @@ use Rattle.itable.specs.InodeMeaning.{BlockSize}
 use Rattle.itable.specs.LargeInode.{largeSize, indirectSize}
 use Rattle.itable.specs.LargeMeaning.{LargeFormed, IndirectSize, IndirectFormed, LargeNamed, ToBlock, LargeConditions}
 use Rattle.itable.specs.LargeFiles.{indirectOf, SeventeenAccepted}
-use Rattle.itable.proofs.FileBlocks.{zeros-mean, rest-means}
+use Rattle.itable.proofs.FileBlocks.{rest-means}
 use Rattle.itable.proofs.LargeCheckMeans.{large-check-means}
 
 -- The bytes of hash k, one by one.

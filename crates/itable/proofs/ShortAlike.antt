@@ -15,7 +15,7 @@ use Rattle.layout.specs.Strings.{zeros}
 use Rattle.search.proofs.Search.{every-cong}
 use Rattle.layout.proofs.Strings.{same-refl}
 use Rattle.layout.proofs.Values.{values-cong, values-part}
-use Rattle.layout.proofs.Zeros.{zeros-read}
+use Rattle.layout.proofs.Zeros.{zeros-read, zeros-mean}
 use Rattle.refusal.specs.Answer.{Answer, accepted}
 use Rattle.refusal.specs.Order.{unless, inOrder}
 use Rattle.refusal.proofs.Means.{in-append}
@@ -25,7 +25,7 @@ use Rattle.itable.specs.Inode.{fileBlocks, hashAt, restZero, holds, inod
 use Rattle.itable.specs.Inode.{inodeSteps, indexSteps, blockSteps, blockCheck}
 use Rattle.itable.specs.LargeInode.{largeSize, largeFormed, largeHash, largeInodeSteps, directSteps, indirectSteps, largeSteps, largeCheck}
 use Rattle.itable.specs.LargeFiles.{enlarged, ShortAlike}
-use Rattle.itable.proofs.FileBlocks.{holds-means, zeros-mean}
+use Rattle.itable.proofs.FileBlocks.{holds-means}
 use Rattle.itable.proofs.BlockCheckMeans.{formed-means}
 
 -- Where the indirect block's hash is zero, a large inode's form asks what that of kind 6 does: a file over 131,072 bytes is refused by both.

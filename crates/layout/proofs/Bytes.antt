@@ -1,11 +1,30 @@
 -- Laws of big-endian numbers: what was written is read back, wherever it stands.
 use Prim.Native.Nat.{ℕ, _+_, _≤_}
 use mathlib.Core.List.{List, _++_}
-use mathlib.Core.Path.{_≡_, refl}
+use mathlib.Core.Path.{_≡_, refl, _∙_}
 use native.Mathlib.Omega.{arith}
-use lib.ListN.{length, take, drop, List·getD-eq-default}
+use lib.ListN.{length, getD, take, drop, List·getD-eq-default}
 use lib.Seq.{getD-append-add, getD-take, getD-drop}
-use Rattle.layout.specs.Bytes.{four, bytes4}
+use Rattle.layout.specs.Bytes.{two, four, bytes2, bytes4}
+
+-- Two bytes are one number wherever they stand.
+pub two-same : (xs ys : List ℕ) (i j : ℕ) → getD xs i 0 ≡ getD ys j 0 → getD xs (i + 1) 0 ≡ getD ys (j + 1) 0 → two xs i ≡ two ys j
+unfolding two
+two-same xs ys i j e f = rw (e, f)
+
+pub length-bytes2 : (x : ℕ) → length (bytes2 x) ≡ 2
+unfolding bytes2
+length-bytes2 x = refl
+
+pub two-past : (xs : List ℕ) (i : ℕ) → length xs ≤ i → two xs i ≡ 0
+unfolding two
+two-past xs i h = rw (List·getD-eq-default xs 0 {n = i} h, List·getD-eq-default xs 0 {n = i + 1} (omega arith))
+
+pub two-part : (xs : List ℕ) (a n i : ℕ) → i + 2 ≤ n → two (take n (drop a xs)) i ≡ two xs (a + i)
+two-part xs a n i h =
+    let e : a + i + 1 ≡ a + (i + 1) = omega arith in
+    two-same (take n (drop a xs)) xs i (a + i) (getD-take n (drop a xs) i 0 (omega arith) ∙ getD-drop a xs i 0)
+    (rw e (getD-take n (drop a xs) (i + 1) 0 (omega arith) ∙ getD-drop a xs (i + 1) 0))
 
 pub four-bytes4 : (x : ℕ) (r : List ℕ) → four (bytes4 x ++ r) 0 ≡ x
 unfolding four bytes4

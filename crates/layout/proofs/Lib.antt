@@ -5,3 +5,4 @@ pub mod Values
 pub mod Strings
 pub mod Copied
 pub mod Zeros
+pub mod Put

@@ -2,7 +2,7 @@
 use Prim.Native.Nat.{ℕ}
 use mathlib.Core.Bool.{Bool, true, false, not}
 use mathlib.Core.List.{List, [], _∷_}
-use mathlib.Core.Logic.{⊎-elim}
+use mathlib.Core.Logic.{_↔_, ⊎-elim}
 use mathlib.Core.Path.{_≡_, refl, sym, ap, ap₂, _∙_}
 use native.Mathlib.Omega.{arith}
 use lib.Dec.{eqb}
@@ -31,6 +31,9 @@ same-true [] [] h = refl
 same-true [] (y ∷ ys) h = absurd (not-both h refl)
 same-true (x ∷ xs) [] h = absurd (not-both h refl)
 same-true (x ∷ xs) (y ∷ ys) h = same-step x y xs ys (eqb x y) refl (same-true xs ys) h
+
+pub same-means : (xs ys : List ℕ) → (same xs ys ≡ true) ↔ (xs ≡ ys)
+same-means xs ys = (same-true xs ys, λ e. rw e (same-refl ys))
 
 pub same-false : (xs ys : List ℕ) → same xs ys ≡ false → xs ≡ ys → ⊥
 same-false xs ys h e = not-both (same-refl xs) (rw (← e) at h)

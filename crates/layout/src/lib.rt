@@ -1,12 +1,13 @@
 // All that is about byte strings: the layouts' numbers, read at every place with zeros past the end, and
-// as bytes; 32 bytes from a place; two strings compared; what is unused, zero. What these numbers and
-// the parts of a byte string are, and the laws of both, stands in specs/ and proofs/.
+// as bytes; 32 bytes from a place; two strings compared; what is unused, zero, and made so. What these
+// numbers and the parts of a byte string are, and the laws of both, stands in specs/ and proofs/.
 ghost use mathlib.Core.Path.{_≡_};
 ghost use mathlib.Core.Bool.{_&&_};
 ghost use Prim.Native.Nat.{_+_, _*_, _-_, _≤_, min};
 ghost use lib.Dec.{eqb};
-ghost use lib.ListN.{length, getD};
-ghost use Rattle.layout.specs.Bytes.{four, eight, bytes4, bytes8, bytesAt};
+ghost use mathlib.Core.List.{_++_};
+ghost use lib.ListN.{length, getD, take, replicate};
+ghost use Rattle.layout.specs.Bytes.{two, four, eight, bytes2, bytes4, bytes8, bytesAt};
 ghost use Rattle.layout.specs.Strings.{same, zeros};
 
 // How many bytes there are from a place on.
@@ -34,6 +35,13 @@ pub fn byte_at(b: &[u8], at: usize) -> u8
     ensures { λ r. ⌜ r ≡ getD (now (b .entry)) at 0 ⌝ }
 {
     behind(b, at, 0)
+}
+
+// The number in the two bytes at a place.
+pub fn u16_at(b: &[u8], at: usize) -> u16
+    ensures { λ r. ⌜ r ≡ two (now (b .entry)) at ⌝ }
+{
+    (behind(b, at, 0) as u16) * 256 + (behind(b, at, 1) as u16)
 }
 
 // The number whose big-endian bytes these are.
@@ -89,6 +97,13 @@ pub fn u64_at(b: &[u8], at: usize) -> u64
         return pair(joined(b, at), joined(b, at + 4));
     }
     pair(quad(b, at, 0), quad(b, at, 4))
+}
+
+// The two bytes of a number.
+pub fn u16_bytes(x: u16) -> [u8; 2]
+    ensures { λ r. ⌜ r ≡ bytes2 x ⌝ }
+{
+    [(x / 256) as u8, (x % 256) as u8]
 }
 
 // The four bytes of a number.
@@ -176,4 +191,15 @@ pub fn zero_between(b: &[u8], from: usize, to: usize) -> bool
         x += 1;
     }
     zero
+}
+
+// Sets the bytes from a place on to zero.
+pub fn clear(from: usize, out: &mut [u8])
+    ensures { λ r. ⌜ now (out .exit) ≡ take from (now (out .entry)) ++ replicate (length (now (out .entry)) - from) 0 ⌝ }
+{
+    let mut i = from;
+    while i < out.len() {
+        out[i] = 0;
+        i += 1;
+    }
 }

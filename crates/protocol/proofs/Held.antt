@@ -2,18 +2,17 @@
 -- was. A place whose own count is 0 holds nothing, so the own count held is that of the place either way.
 use Prim.Native.Nat.{ℕ, _+_, _-_, _*_, _≤_, _<_}
 use mathlib.Core.Bool.{Bool, true, false, cond}
-use mathlib.Core.List.{List, [], _∷_, _++_, append-assoc}
+use mathlib.Core.List.{List, [], _∷_}
 use mathlib.Core.Logic.{⊎-elim}
 use mathlib.Core.Path.{_≡_, refl, sym, ap, _∙_}
-use native.Mathlib.Decide.{decLt, ℕ-discrete}
+use native.Mathlib.Decide.{ℕ-discrete}
 use native.Mathlib.Omega.{arith}
 use lib.Dec.{leb, eqb}
-use lib.ListN.{length, take, drop, replicate, length-append, length-drop, length-replicate, take-append-drop, getD-replicate}
-use lib.Seq.{length-take-le, drop-append-add, drop-drop}
+use lib.ListN.{length, replicate, length-replicate, getD-replicate}
 use borrow.Author.Tests.{eqb-true, ne-eqb, eq-eqb, le-leb}
-use Rattle.layout.specs.Bytes.{four, part}
+use Rattle.layout.specs.Bytes.{four, part, putAt}
 use Rattle.layout.proofs.Bytes.{four-past, four-part}
-use Rattle.layout.proofs.Parts.{part-append, part-at}
+use Rattle.layout.proofs.Put.{put-length, part-put, part-put-other}
 use Rattle.search.proofs.Bool.{bool-cases}
 use Rattle.refusal.specs.Answer.{Answer, accepted}
 use Rattle.refusal.specs.Result.{left}
@@ -27,50 +26,20 @@ use Rattle.protocol.specs.Server.{empty, makeSteps, make, made, slot, he
 pub count-none : (v : ℕ) → count [] v ≡ 0
 count-none v = four-past [] (34 + 4 * v) (omega arith)
 
--- What stands after a part that stands after others.
-module _ (before x behind : List ℕ) (n o : ℕ) (b : length before ≡ n * o) (h : length x ≡ n) where
-  drop-between : (d : ℕ) → drop (n * o + n + d) (before ++ (x ++ behind)) ≡ drop d behind
-  drop-between d =
-      let e : n * o + n + d ≡ length (before ++ x) + d = simp length-append (omega arith) in
-      rw (e, ← append-assoc before x behind) (drop-append-add (before ++ x) behind d)
-
 module _ (s : Server) (x : List ℕ) (long : length (s .records) ≡ 1568) (h : length x ≡ size) (o : owner x < 16) where
-  before-length : length (take (size * owner x) (s .records)) ≡ size * owner x
-  before-length = length-take-le (size * owner x) (s .records) (omega arith)
+  -- The record is put over its owner's place.
+  put-there : replaced s x .records ≡ putAt (s .records) (size * owner x) x
+  unfolding replaced putAt
+  put-there = rw h
 
   pub replaced-length : length (replaced s x .records) ≡ 1568
-  unfolding replaced
-  replaced-length = simp (length-append, before-length, length-drop) (omega arith)
+  replaced-length = ap length put-there ∙ (put-length (s .records) (size * owner x) x (omega arith) ∙ long)
 
   pub slot-same : slot (replaced s x) (owner x) ≡ x
-  unfolding replaced
-  slot-same =
-      part-at size (take (size * owner x) (s .records)) x (drop (size * owner x + size) (s .records)) (owner x) before-length h
-
-  slot-below : (v : ℕ) → v < owner x → slot (replaced s x) v ≡ slot s v
-  unfolding replaced
-  slot-below v l =
-      let f : size * v + size ≤ length (take (size * owner x) (s .records)) = omega (arith, before-length) in
-      part-append size (take (size * owner x) (s .records)) (x ++ drop (size * owner x + size) (s .records)) v f ∙
-      (sym (part-append size (take (size * owner x) (s .records)) (drop (size * owner x) (s .records)) v f) ∙
-      ap (λ (r : List ℕ). part size r v) (take-append-drop (size * owner x) (s .records)))
-
-  slot-above : (v : ℕ) → owner x < v → slot (replaced s x) v ≡ slot s v
-  unfolding replaced
-  slot-above v l =
-      let d : ℕ = 98 * v - (98 * owner x + 98) in
-      let e : size * v ≡ size * owner x + size + d = omega arith in
-      rw e
-      (ap (take size)
-      (drop-between (take (size * owner x) (s .records)) x (drop (size * owner x + size) (s .records)) size (owner x) before-length h d ∙
-      drop-drop d (size * owner x + size) (s .records)))
+  slot-same = ap (λ (r : List ℕ). part size r (owner x)) put-there ∙ part-put size (s .records) (owner x) x h (omega arith)
 
   pub slot-other : (v : ℕ) → (v ≡ owner x → ⊥) → slot (replaced s x) v ≡ slot s v
-  slot-other v n =
-      elim (decLt v (owner x)) [
-        | yes l ↦ slot-below v l
-        | no g ↦ slot-above v (omega arith)
-      ]
+  slot-other v n = ap (λ (r : List ℕ). part size r v) put-there ∙ part-put-other size (s .records) (owner x) x h (omega arith) v n
 
 -- The own count held is that of the place.
 pub held-own : (s : Server) (v : ℕ) → heldOwn s v ≡ count (slot s v) v

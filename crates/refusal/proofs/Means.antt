@@ -4,7 +4,7 @@ use Prim.Native.Nat.{ℕ, _≤_, _<_}
 use mathlib.Core.Bool.{Bool, true, false, not}
 use mathlib.Core.List.{List, [], _∷_, _++_}
 use mathlib.Core.Logic.{_⊎_, _↔_, inl, inr, ⊎-elim}
-use mathlib.Core.Path.{_≡_, refl, ap, _∙_}
+use mathlib.Core.Path.{_≡_, refl, sym, ap, _∙_}
 use native.Mathlib.Omega.{arith}
 use Rattle.search.specs.Search.{find, every}
 use Rattle.search.specs.First.{First, FirstPair}
@@ -163,3 +163,26 @@ pairs-mean {P} R k i to from =
           ⊎-elim (λ e. inl (λ j l a b. to j l a b (pairs-at R k e j l a b)))
           (λ e. inr (i, firstLow R k, firstHigh R k, (first-pair-same to from (first-pair R k e), refl))) (bool-cases (everyPair R k));
     }
+
+-- The reason R of each refusal, by that of a first test and of one test more.
+module _ (R : ℕ → ℕ → ℕ → Type 0) {i j k : ℕ} where
+  pub why-first : {X : Type 0} → ((X → ⊥) → R i j k) → (n p q : ℕ) → Unless X i j k n p q → R n p q
+  why-first f n p q w = rw (w .1, w .2, w .3) (f (w .0))
+
+  pub why-next :
+      {P X : Type 0} {Q : ℕ → ℕ → ℕ → Type 0} → ((n p q : ℕ) → Q n p q → R n p q) → (P → (X → ⊥) → R i j k) →
+      (n p q : ℕ) → Either P Q (Unless X i j k) n p q → R n p q
+  why-next f g n p q = ⊎-elim (f n p q) (λ w. why-first (g (w .0)) n p q (w .1))
+
+-- The result is the one of which T holds, and what the stages give is what the statement calls its reasons.
+pub exactly :
+    {A : Type 0} {x : Answer A} {a : A} {P : Type 0} {Q R : ℕ → ℕ → ℕ → Type 0} → Means x a P Q → (T : A → Type 0) → (P → T a) →
+    ((b : A) → P → T b → b ≡ a) → ((n p q : ℕ) → Q n p q → R n p q) → ((n p q : ℕ) → R n p q → Q n p q) →
+    ((b : A) → (x ≡ accepted b) ↔ (P × T b)) × ((n p q : ℕ) → (x ≡ refused n p q) ↔ R n p q)
+exactly m T here only why given = (
+  λ b. (
+    λ e. let w = means-accepted m e in (w .0, rw (w .1) (here (w .0))),
+    λ w. m .accepts (w .0) ∙ ap accepted (sym (only b (w .0) (w .1))),
+  ),
+  λ n p q. (λ e. why n p q (means-refused m e), λ w. m .refuses (given n p q w)),
+)

@@ -18,6 +18,9 @@ use Rattle.refusal.specs.declared.Refusal.the-variants.{
   NoBlock,
   NotAscending,
   NoRoom,
+  NoPlace,
+  LastReference,
+  NotHeld,
 }
 
 -- Each refusal has one number and two positions, whatever the call's result would be.
@@ -34,6 +37,9 @@ numbered (PathLength p) = (9, p, 0, λ A. refl)
 numbered NoBlock = (10, 0, 0, λ A. refl)
 numbered (NotAscending p) = (11, p, 0, λ A. refl)
 numbered NoRoom = (12, 0, 0, λ A. refl)
+numbered NoPlace = (13, 0, 0, λ A. refl)
+numbered LastReference = (14, 0, 0, λ A. refl)
+numbered NotHeld = (15, 0, 0, λ A. refl)
 
 -- A refusal ends what would follow it, and a refused call keeps what was there before.
 pub ends : {A B : Type 0} (r : Refusal) (f : B → Answer A) → andThen (refusal r) f ≡ refusal r

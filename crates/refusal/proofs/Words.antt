@@ -1,8 +1,8 @@
 -- Laws of answers as one number.
 use Prim.Native.Nat.{ℕ, _/_, _%_, _^_, _<_}
-use mathlib.Core.Path.{_≡_, refl, ap, _∙_}
+use mathlib.Core.Path.{_≡_, refl, sym, ap, _∙_}
 use native.Mathlib.Omega.{arith}
-use Rattle.refusal.specs.Answer.{Answer}
+use Rattle.refusal.specs.Answer.{Answer, accepted, refused, andThen}
 use Rattle.refusal.specs.Result.{Gives}
 use Rattle.refusal.specs.Refusal.{refusal, checked, said}
 use Rattle.refusal.specs.Word.{word, answerWord, plainWord}
@@ -30,3 +30,17 @@ pub gives-word :
     {A : Type 0} {due : Answer A} {before after : A} {c : Check} {w : ℕ} → Gives due before after c → w ≡ plainWord (said c) →
     w ≡ plainWord due
 gives-word {after} {c} g e = e ∙ (word-checked after c ∙ ap plainWord (g .answers))
+
+-- The number that tells an answer, by what the answer is known to be: one law for each call's answer, whatever its result.
+module _ {A : Type 0} (first second : A → ℕ) {answer : Answer A} {w : ℕ} where
+  pub accepted-word : {a : A} → answer ≡ accepted a → w ≡ word 0 (first a) (second a) → w ≡ answerWord first second answer
+  accepted-word e n = n ∙ sym (ap (answerWord first second) e)
+
+  pub refused-word : (r : Refusal) → answer ≡ refusal r → w ≡ plainWord {A = Unit} (refusal r) → w ≡ answerWord first second answer
+  refused-word r e n = n ∙ (word-refusal Unit r first second ∙ sym (ap (answerWord first second) e))
+
+-- The number of an answer whose result is told by one number, from that number's own answer.
+pub told-by : {A : Type 0} (f : A → ℕ) (x : Answer A) {y : Answer ℕ} {w : ℕ} → y ≡ andThen x (λ a. accepted (f a)) → w ≡ answerWord (λ n. n) (λ n. 0) y →
+    w ≡ answerWord f (λ a. 0) x
+told-by f (accepted a) e h = h ∙ ap (answerWord (λ n. n) (λ n. 0)) e
+told-by f (refused n p q) e h = h ∙ ap (answerWord (λ n. n) (λ n. 0)) e

@@ -1,4 +1,5 @@
 -- The number and the two positions of each refusal, as the table "Refusal numbers" has them.
+use Prim.Native.Nat.{ℕ}
 use Rattle.refusal.specs.Answer.{Answer, accepted, refused}
 use Rattle.refusal.specs.declared.Refusal.{Refusal}
 use Rattle.refusal.specs.declared.Refusal.the-variants.{
@@ -14,7 +15,12 @@ use Rattle.refusal.specs.declared.Refusal.the-variants.{
   NoBlock,
   NotAscending,
   NoRoom,
+  NoPlace,
+  LastReference,
+  NotHeld,
 }
+use Rattle.refusal.specs.declared.Given.{Given}
+use Rattle.refusal.specs.declared.Given.the-variants.{Number, Refused as NotGiven}
 use Rattle.refusal.specs.declared.Check.{Check}
 use Rattle.refusal.specs.declared.Check.the-variants.{Passed, Refused}
 
@@ -31,6 +37,9 @@ refusal (PathLength p) = refused 9 p 0
 refusal NoBlock = refused 10 0 0
 refusal (NotAscending p) = refused 11 p 0
 refusal NoRoom = refused 12 0 0
+refusal NoPlace = refused 13 0 0
+refusal LastReference = refused 14 0 0
+refusal NotHeld = refused 15 0 0
 
 -- The answer of a call whose result is `a`.
 abbrev pub checked : {A : Type 0} → A → Check → Answer A
@@ -41,3 +50,8 @@ checked a (Refused r) = refusal r
 abbrev pub said : Check → Answer Unit
 said Passed = accepted tt
 said (Refused r) = refusal r
+
+-- What a call gives whose result is a number.
+abbrev pub given : Given → Answer ℕ
+given (Number n) = accepted n
+given (NotGiven r) = refusal r

@@ -2,19 +2,19 @@
 // fixes, holding the positions that the paper names for it. What number and which positions
 // a variant stands for is said once, in specs/Refusal.antt, and every contract cites that.
 //
-// Numbers 13 to 19 are kept for what is planned above this base.
+// Numbers 16 to 19 are kept for what is planned above this base.
 ghost use mathlib.Core.Path.{_≡_};
 ghost use Rattle.refusal.specs.Answer.{refused};
-ghost use Rattle.refusal.specs.Refusal.{refusal, said};
-ghost use Rattle.refusal.specs.Word.{word as wordOf, plainWord};
+ghost use Rattle.refusal.specs.Refusal.{refusal, said, given};
+ghost use Rattle.refusal.specs.Word.{word as wordOf, answerWord, plainWord};
 
-// The refusals, in the order of their numbers, 1 to 12.
+// The refusals, in the order of their numbers, 1 to 15.
 pub enum Refusal {
-    // 1: the number of users is not 1 to 16, or the user is not below it.
+    // 1: the number of users is not 1 to 16, or the user is not below it; of a block store, above 15.
     Users,
     // 2: a length is not the stated one.
     Length(usize),
-    // 3: a record, the order of owners, a block or an inode is not well formed.
+    // 3: a record, the order of owners, a block, an inode or a place of a store is not well formed.
     Malformed(usize),
     // 4: a signature mark is not 1.
     Unsigned(usize),
@@ -34,11 +34,23 @@ pub enum Refusal {
     NotAscending(usize),
     // 12: the buffer is shorter than what is to be written.
     NoRoom,
+    // 13: no place of the block store is free, and one is needed.
+    NoPlace,
+    // 14: the user's count of the block is the last there is.
+    LastReference,
+    // 15: no place of the block store holds the hash.
+    NotHeld,
 }
 
 // The answer of a call whose result is in a lent buffer, and of each stage of a longer one.
 pub enum Check {
     Passed,
+    Refused(Refusal),
+}
+
+// The answer of a call that gives a number, beside what it may write into a lent buffer.
+pub enum Given {
+    Number(usize),
     Refused(Refusal),
 }
 
@@ -77,6 +89,9 @@ pub fn tell(r: Refusal) -> Told
         Refusal::NoBlock => row(10, 0, 0),
         Refusal::NotAscending(p) => row(11, p, 0),
         Refusal::NoRoom => row(12, 0, 0),
+        Refusal::NoPlace => row(13, 0, 0),
+        Refusal::LastReference => row(14, 0, 0),
+        Refusal::NotHeld => row(15, 0, 0),
     }
 }
 
@@ -103,5 +118,15 @@ pub fn check_word(c: Check) -> u64
     match c {
         Check::Passed => 0,
         Check::Refused(r) => refusal_word(r),
+    }
+}
+
+// The answer of a call that gives a number, as such a number: its first result.
+pub fn given_word(g: Given) -> u64
+    ensures { λ w. ⌜ w ≡ answerWord (λ n. n) (λ n. 0) (given g) ⌝ }
+{
+    match g {
+        Given::Number(n) => word(0, n, 0),
+        Given::Refused(r) => refusal_word(r),
     }
 }

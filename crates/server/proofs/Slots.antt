@@ -3,8 +3,8 @@ use Prim.Native.Nat.{ℕ, zero, suc, _+_, _-_, _*_, _/_, _≤_, _<_}
 use mathlib.Core.List.{List, [], _++_, append-nil, append-assoc}
 use mathlib.Core.Path.{_≡_, refl, sym, ap, _∙_}
 use native.Mathlib.Omega.{arith}
-use lib.ListN.{length, take, drop, length-append, length-drop, drop-of-length-le}
-use lib.Seq.{take-at, take-all, take-length, drop-drop, drop-append-add}
+use lib.ListN.{length, take, drop, length-append}
+use lib.Seq.{take-at, drop-drop, drop-append-add}
 use borrow.Author.Tests.{le-leb, lt-leb}
 use Rattle.layout.proofs.Parts.{part-length}
 use Rattle.protocol.specs.Version.{size, count}
@@ -65,15 +65,6 @@ module _ (s : Server) where
       let w : allHeld s ≡ heldFrom s 0 v ++ held s v ++ heldFrom s (0 + (v + 1)) (15 - v) =
       ap (heldFrom s 0) e ∙ held-split 0 (v + 1) (15 - v) ∙ rw (held-more v) in
       omega (arith, simp length-append at (ap length w))
-
--- A copy into the part from a place to the end, put back into the whole.
-pub copied :
-    (xs out part : List ℕ) (at room : ℕ) → at + length xs ≤ length out → length out ≤ at + room →
-    part ≡ take (length xs) xs ++ drop (length xs) (take room (drop at out)) →
-    take at out ++ (part ++ drop room (drop at out)) ≡ take at out ++ (xs ++ drop (at + length xs) out)
-copied xs out part at room h r e =
-    let l : length (drop at out) ≤ room = simp length-drop (omega arith) in
-    rw (drop-of-length-le (drop at out) {i = room} l, e, take-all room (drop at out) l, take-length xs, drop-drop (length xs) at out, append-nil)
 
 -- What is held does not depend on the number of users.
 pub any-users : (a b : ℕ) (r : List ℕ) → allHeld (record { users = a; records = r }) ≡ allHeld (record { users = b; records = r })

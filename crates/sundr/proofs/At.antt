@@ -18,7 +18,7 @@ use Rattle.refusal.proofs.Numbered.{ends}
 use Rattle.protocol.specs.Server.{make, listed, listing}
 use Rattle.protocol.specs.declared.Server.{Server}
 use Rattle.sundr.specs.Server.{sizeSteps, serverIn, bytesOf, makeAt, listedAt, listingAt}
-use Rattle.server.proofs.Slots.{copied}
+use Rattle.layout.proofs.Copied.{copied}
 
 module _ {A : Type 0} (b : List ℕ) (a : Answer A) where
   pub sized : length b ≡ 1569 → inOrder (sizeSteps b) a ≡ a

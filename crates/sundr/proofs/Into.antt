@@ -18,7 +18,7 @@ use Rattle.lookup.specs.Looked.{answer, Looks}
 use Rattle.lookup.specs.declared.Looked.{Looked}
 use Rattle.lookup.specs.declared.Outcome.{Outcome}
 use Rattle.lookup.specs.declared.Outcome.the-variants.{Found, Absent, Refused}
-use Rattle.sundr.proofs.AnswerWord.{accepted-word, refused-word}
+use Rattle.refusal.proofs.Words.{accepted-word, refused-word}
 use Rattle.sundr.specs.Lookup.{lookedUp, isFound, entryOr, lookupInto}
 
 -- The call answers w, and the buffer is `after`.

@@ -88,6 +88,24 @@ enum-told-5 c = search needs
 row-requires-12 : tie.Need-row-requires-12
 row-requires-12 c κs = search needs
 
+enum-told-6 : tie.Need-enum-told-6
+enum-told-6 c = search needs
+
+row-requires-13 : tie.Need-row-requires-13
+row-requires-13 c κs = search needs
+
+enum-told-7 : tie.Need-enum-told-7
+enum-told-7 c = search needs
+
+row-requires-14 : tie.Need-row-requires-14
+row-requires-14 c κs = search needs
+
+enum-told-8 : tie.Need-enum-told-8
+enum-told-8 c = search needs
+
+row-requires-15 : tie.Need-row-requires-15
+row-requires-15 c κs = search needs
+
 returns : tie.Need-returns
 returns c = of-variant (c .row .ensures) (c .before .enum-told .given .1) refl
 
@@ -124,6 +142,15 @@ returns-11 c = of-variant (c .row11 .ensures) (c .before .before .r7 .given .1) 
 returns-12 : tie.Need-returns-12
 returns-12 c = of-variant (c .row12 .ensures) (c .before .enum-told5 .given .1) refl
 
+returns-13 : tie.Need-returns-13
+returns-13 c = of-variant (c .row13 .ensures) (c .before .enum-told6 .given .1) refl
+
+returns-14 : tie.Need-returns-14
+returns-14 c = of-variant (c .row14 .ensures) (c .before .enum-told7 .given .1) refl
+
+returns-15 : tie.Need-returns-15
+returns-15 c = of-variant (c .row15 .ensures) (c .before .enum-told8 .given .1) refl
+
 pub tell-spec : {M : Type 1} → statement M
 tell-spec =
     tie.close
@@ -152,6 +179,12 @@ tell-spec =
     row-requires-11
     enum-told-5
     row-requires-12
+    enum-told-6
+    row-requires-13
+    enum-told-7
+    row-requires-14
+    enum-told-8
+    row-requires-15
     returns
     returns-2
     returns-3
@@ -163,4 +196,7 @@ tell-spec =
     returns-9
     returns-10
     returns-11
-    returns-12)
+    returns-12
+    returns-13
+    returns-14
+    returns-15)

@@ -5,7 +5,7 @@ use mathlib.Core.Path.{_≡_}
 use native.Mathlib.Omega.{arith}
 use lib.ListN.{length, take}
 use lib.Seq.{take-all}
-use Rattle.server.proofs.Slots.{copied}
+use Rattle.layout.proofs.Copied.{copied}
 use borrow.Author.Needs.{needs}
 use Rattle.server.proofs.replace.Statement.{statement}
 use Rattle.server.proofs.replace.Tie as tie

@@ -97,7 +97,7 @@ add-clear : tie.Need-add-clear Inv-loop μ-loop
 add-clear c = omega arith
 
 clear-requires : tie.Need-clear-requires Inv-loop μ-loop
-clear-requires c κs = omega arith
+clear-requires c κs = tt
 
 same-length : tie.Need-same-length Inv-loop μ-loop
 same-length c = omega arith

@@ -11,7 +11,8 @@ use Rattle.protocol.specs.Version.{size}
 use Rattle.protocol.specs.Server.{held, slot}
 use Rattle.protocol.specs.declared.Server.{Server}
 use Rattle.protocol.proofs.Held.{held-slot}
-use Rattle.server.proofs.Slots.{held-none, length-held, copied}
+use Rattle.layout.proofs.Copied.{copied}
+use Rattle.server.proofs.Slots.{held-none, length-held}
 use Rattle.server.proofs.listing.write_one.Tie as tie
 use Rattle.server.proofs.listing.write_one.Statement.{statement}
 

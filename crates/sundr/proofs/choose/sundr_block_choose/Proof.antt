@@ -4,7 +4,7 @@ use mathlib.Core.Path.{sym, ap, _∙_}
 use Rattle.cache.specs.Choice.{answerOf}
 use borrow.Author.Needs.{needs}
 use Rattle.sundr.specs.Choose.{partNumber, partLength}
-use Rattle.sundr.proofs.AnswerWord.{accepted-word, refused-word}
+use Rattle.refusal.proofs.Words.{accepted-word, refused-word}
 use Rattle.sundr.proofs.choose.sundr_block_choose.Statement.{statement}
 use Rattle.sundr.proofs.choose.sundr_block_choose.Tie as tie
 

@@ -3,7 +3,7 @@ use mathlib.Core.Path.{ap}
 use Rattle.itable.specs.Inode.{Span}
 use Rattle.inode.specs.Spanned.{answerOf}
 use borrow.Author.Needs.{needs}
-use Rattle.sundr.proofs.AnswerWord.{accepted-word, refused-word}
+use Rattle.refusal.proofs.Words.{accepted-word, refused-word}
 use Rattle.sundr.proofs.file.spanned_word.Statement.{statement}
 use Rattle.sundr.proofs.file.spanned_word.Tie as tie
 

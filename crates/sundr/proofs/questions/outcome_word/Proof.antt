@@ -2,7 +2,8 @@
 use mathlib.Core.Path.{ap}
 use Rattle.many.specs.Outcome.{answerOf}
 use borrow.Author.Needs.{needs}
-use Rattle.sundr.proofs.AnswerWord.{accepted-word, question-word}
+use Rattle.refusal.proofs.Words.{accepted-word}
+use Rattle.sundr.proofs.AnswerWord.{question-word}
 use Rattle.sundr.proofs.questions.outcome_word.Statement.{statement}
 use Rattle.sundr.proofs.questions.outcome_word.Tie as tie
 

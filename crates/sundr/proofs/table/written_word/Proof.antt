@@ -3,7 +3,7 @@ use Prim.Native.Nat.{ℕ}
 use mathlib.Core.Path.{ap}
 use Rattle.writer.specs.Written.{answerOf}
 use borrow.Author.Needs.{needs}
-use Rattle.sundr.proofs.AnswerWord.{accepted-word, refused-word}
+use Rattle.refusal.proofs.Words.{accepted-word, refused-word}
 use Rattle.sundr.proofs.table.written_word.Statement.{statement}
 use Rattle.sundr.proofs.table.written_word.Tie as tie
 

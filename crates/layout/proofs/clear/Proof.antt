@@ -6,19 +6,19 @@ use mathlib.Core.Path.{_≡_, sym, ap, _∙_}
 use native.Mathlib.Omega.{arith}
 use lib.ListN.{length, take, replicate, length-set}
 use lib.Seq.{take-all}
-use Rattle.block.proofs.Filling.{uncleared, cleared}
-use Rattle.block.proofs.fill.clear.Statement.{statement}
-use Rattle.block.proofs.fill.clear.Tie as tie
+use Rattle.layout.proofs.Zeros.{uncleared, cleared}
+use Rattle.layout.proofs.clear.Statement.{statement}
+use Rattle.layout.proofs.clear.Tie as tie
 
 abbrev Inv-loop : tie.InvT-loop
 Inv-loop from out₀ i₀ out i =
-    (from ≤ i) × (i ≤ length out) × (length out ≡ length out₀) × (take i out ≡ take from out₀ ++ replicate (i - from) 0)
+    (from ≤ i) × (i - from ≤ length out - from) × (length out ≡ length out₀) × (take i out ≡ take from out₀ ++ replicate (i - from) 0)
 
 abbrev μ-loop : tie.MeasureT-loop
 μ-loop from out₀ i₀ out i = length out - i
 
 loop-holds : tie.Need-loop-holds Inv-loop μ-loop
-loop-holds c = (omega arith, c .pre, omega arith, uncleared (c .args .from) (c .args .out .now))
+loop-holds c = (omega arith, omega arith, omega arith, uncleared (c .args .from) (c .args .out .now))
 
 slice-write-out : tie.Need-slice-write-out Inv-loop μ-loop
 slice-write-out c = omega arith
@@ -45,9 +45,8 @@ returns : tie.Need-returns Inv-loop μ-loop
 returns c =
     let l = c .before .loop in
     let a = c .before .before .args in
-    let e : l .i ≡ length (a .out .now) = omega arith in
-    sym (take-all (l .i) (l .out) (omega arith)) ∙
-    (l .inv .3 ∙ ap (λ n. take (a .from) (a .out .now) ++ replicate (n - a .from) 0) e)
+    let e : l .i - a .from ≡ length (a .out .now) - a .from = omega arith in
+    sym (take-all (l .i) (l .out) (omega arith)) ∙ (l .inv .3 ∙ ap (λ n. take (a .from) (a .out .now) ++ replicate n 0) e)
 
 pub clear-spec : {M : Type 1} → statement M
 clear-spec =
