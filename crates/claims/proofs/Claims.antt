@@ -41,6 +41,16 @@ use Rattle.cache.proofs.Handed.{chosen-is-path, empty-is-refused, block-chosen,
 use Rattle.sundr.proofs.ChosenRead.{chosen-read}
 use Rattle.sundr.proofs.AnswersRead.{answers-read}
 use Rattle.sundr.proofs.ServerInBytes.{server-in-bytes}
+use Rattle.store.proofs.MakeMeans.{make-means}
+use Rattle.store.proofs.StoreMeans.{store-means}
+use Rattle.store.proofs.RetrieveMeans.{retrieve-means}
+use Rattle.store.proofs.RetrieveIntoMeans.{retrieve-into-means}
+use Rattle.store.proofs.UnreferenceMeans.{unreference-means}
+use Rattle.store.proofs.RetrievedHash.{retrieved-hash}
+use Rattle.store.proofs.StoredIsRetrieved.{stored-is-retrieved}
+use Rattle.store.proofs.ReferencesCounted.{references-counted}
+use Rattle.store.proofs.MadeStaysSound.{made-stays-sound}
+use Rattle.store.proofs.RoundTrip.{round-trip}
 use Rattle.input.proofs.UsersRefused.{users-refused}
 use Rattle.report.proofs.UsersPrinted.{users-printed}
 use Rattle.report.proofs.ExamplePrinted.{example-printed}
@@ -100,6 +110,16 @@ claims =
       empty-is-refused = empty-is-refused;
       block-chosen = block-chosen;
       empty-not-there = empty-not-there;
+      make-means = make-means;
+      store-means = store-means;
+      retrieve-means = retrieve-means;
+      retrieve-into-means = retrieve-into-means;
+      unreference-means = unreference-means;
+      retrieved-hash = retrieved-hash;
+      stored-is-retrieved = stored-is-retrieved;
+      references-counted = references-counted;
+      made-stays-sound = made-stays-sound;
+      round-trip = round-trip;
       chosen-read = chosen-read;
       answers-read = answers-read;
       server-in-bytes = server-in-bytes;

@@ -29,6 +29,10 @@ use Rattle.itable.specs.LargeFiles.{ShortAlike, SeventeenAccepted}
 use Rattle.itable.specs.Answers.{EntryMeans, AtMostBlocks, WrittenAnswers, OtherwiseCollides, BufferAnswersAsTable}
 use Rattle.cache.specs.ChooseMeaning.{ChooseMeans}
 use Rattle.cache.specs.Handed.{ChosenIsPath, EmptyIsRefused, BlockChosen, EmptyNotThere}
+use Rattle.store.specs.Meaning.{MakeMeans, StoreMeans, RetrieveMeans, RetrieveIntoMeans, UnreferenceMeans}
+use Rattle.store.specs.Retrieved.{RetrievedHash, StoredIsRetrieved}
+use Rattle.store.specs.Runs.{ReferencesCounted, MadeStaysSound}
+use Rattle.store.specs.RoundTrip.{RoundTrip}
 use Rattle.input.specs.UsersRefused.{UsersRefused}
 use Rattle.report.specs.UsersPrinted.{UsersPrinted}
 use Rattle.report.specs.ExamplePrinted.{ExamplePrinted}
@@ -139,6 +143,23 @@ pub record Claims : Type 1 where
   pub block-chosen : BlockChosen
   -- An empty part is never chosen, whatever is wanted, the hash of no bytes too.
   pub empty-not-there : EmptyNotThere
+  -- A block store is made of zeros; storing, retrieving and unreferencing accept exactly where each condition holds, refuse exactly for the first that
+  -- does not, and leave every byte that is not named.
+  pub make-means : MakeMeans
+  pub store-means : StoreMeans
+  pub retrieve-means : RetrieveMeans
+  pub retrieve-into-means : RetrieveIntoMeans
+  pub unreference-means : UnreferenceMeans
+  -- What is retrieved has the wanted hash.
+  pub retrieved-hash : RetrievedHash
+  -- What is stored is retrieved.
+  pub stored-is-retrieved : StoredIsRetrieved
+  -- Over every list of calls from a made store, all counts and the references taken are together the accepted stores.
+  pub references-counted : ReferencesCounted
+  -- A made store stays sound, and gives room back.
+  pub made-stays-sound : MadeStaysSound
+  -- Every block is stored, retrieved, shared, and given back.
+  pub round-trip : RoundTrip
   -- The pointer and the length that a caller in C makes of the choice's number are those of the slice that is handed back.
   pub chosen-read : ChosenRead
   -- What a caller in C reads in an answer's number is the answer, for every input of each call.

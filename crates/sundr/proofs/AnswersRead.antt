@@ -12,6 +12,7 @@ use Rattle.sundr.proofs.Fits.{small-fits, plain-read}
 use Rattle.sundr.proofs.ReadProtocol.{check-read, compare-read, make-read, list-read, commit-read}
 use Rattle.sundr.proofs.ReadTable.{write-read, lookup-read, many-read, block-read, large-read}
 use Rattle.sundr.proofs.ReadChoose.{choose-read}
+use Rattle.sundr.proofs.ReadStore.{make-store-read, store-read, retrieve-read, unreference-read}
 
 sha256-read : (message : List ℕ) (room : ℕ) → IsReadPlain (hash message room)
 unfolding hash
@@ -34,4 +35,8 @@ answers-read =
       block = block-read;
       large-block = large-read;
       choose = choose-read;
+      make-store = make-store-read;
+      store = store-read;
+      retrieve = retrieve-read;
+      unreference = unreference-read;
     }

@@ -5,6 +5,7 @@ pub mod Fits
 pub mod ReadProtocol
 pub mod ReadTable
 pub mod ReadChoose
+pub mod ReadStore
 pub mod AnswersRead
 pub mod ChosenRead
 pub mod ServerInBytes

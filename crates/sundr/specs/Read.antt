@@ -4,6 +4,7 @@ use mathlib.Core.Bool.{cond}
 use mathlib.Core.List.{List}
 use mathlib.Core.Path.{_≡_}
 use lib.Dec.{eqb}
+use lib.ListN.{length}
 use Rattle.refusal.specs.Answer.{Answer, accepted, refused, andThen}
 use Rattle.refusal.specs.Word.{answerWord}
 use Rattle.sha256.specs.Hash.{hash}
@@ -15,6 +16,7 @@ use Rattle.itable.specs.Many.{many}
 use Rattle.itable.specs.Inode.{Span, blockCheck}
 use Rattle.itable.specs.LargeInode.{largeCheck}
 use Rattle.cache.specs.Choose.{choose}
+use Rattle.store.specs.Calls.{make as makeStore, store as storeBlock, retrieve, Unreferenced, unreference}
 use Rattle.sundr.specs.Compare.{compared, standingNumber}
 use Rattle.sundr.specs.Choose.{partNumber, partLength}
 use Rattle.sundr.specs.Server.{makeAt, listedAt}
@@ -71,3 +73,8 @@ pub record AnswersRead : Type 0 where
       (handle inode : List ℕ) (index : ℕ) (indirect block : List ℕ) →
       IsRead (λ (a : Span). a .offset) (λ a. a .size) (largeCheck handle inode index indirect block)
   pub choose : (wanted reply cached : List ℕ) → IsRead partNumber (partLength reply cached) (choose wanted reply cached)
+  pub make-store : (store : List ℕ) → IsReadPlain (makeStore store)
+  pub store : (store : List ℕ) (user : ℕ) (block : List ℕ) → IsReadPlain (storeBlock store user block)
+  pub retrieve : (store hash : List ℕ) (room : ℕ) → IsRead length (λ b. 0) (retrieve store hash room)
+  pub unreference :
+      (store : List ℕ) (user : ℕ) (hash : List ℕ) → IsRead (λ (t : Unreferenced). t .took) (λ t. 0) (unreference store user hash)

@@ -2,6 +2,7 @@
 // layer below, with its answer as one number of 64 bits. All that is decided here is two lengths,
 // of a server's list that is lent as bytes and of the buffer for a handle that is looked up, and the
 // numbers that tell how two structures stand and which part was chosen.
+mod block_store;
 mod check;
 mod choose;
 mod compare;

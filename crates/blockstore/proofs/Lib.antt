@@ -1,0 +1,4 @@
+pub mod Laws
+pub mod Admitted
+pub mod Due
+pub mod Calls

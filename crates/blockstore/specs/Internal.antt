@@ -1,0 +1,2 @@
+-- What serves the contracts within the crate alone.
+pub mod Stages
