@@ -78,7 +78,7 @@ impl Refusal {
         match self.number {
             1 => "there is no such user: users are numbered from 0, and there are 1 to 16",
             2 => "a length is not the one that is due: cut off, or too long",
-            3 => "a record, the order of records, a block or an inode is malformed",
+            3 => "a record, the order of records, a block, an inode or a place of the store is malformed",
             4 => "a record's signature is not good",
             5 => "the server's list does not continue your last version: rolled back, or your record is hidden",
             6 => "your version number is the last there is: this user can make no further version",

@@ -17,7 +17,7 @@
  *
  * Answers. Each call answers one number of 64 bits:
  *
- *     bits  0 to  7   0 if the call accepted, else the number of the refusal (1 to 12)
+ *     bits  0 to  7   0 if the call accepted, else the number of the refusal (1 to 15)
  *     bits  8 to 31   accepted: the first result;   refused: the first position
  *     bits 32 to 63   accepted: the second result;  refused: the second position
  *
@@ -25,9 +25,10 @@
  * not altered one lent byte.
  *
  * Stack. The bytes that a call takes, with what it takes to call it, as make bench measures them
- * (x86-64, accepted, with the most users or questions; what is refused was not seen to take more).
- * Every call is tested on a stack of 4,096 bytes. They are measured, not proved, so leave some to
- * spare: a memcpy() that is bound at its first call, say, takes more once (3,432 bytes were seen).
+ * (x86-64, accepted, with the most users, questions or held places; what is refused was not seen to
+ * take more). Every call is tested on a stack of 4,096 bytes. They are measured, not proved, so leave
+ * some to spare: a memcpy() that is bound at its first call, say, takes more once (3,432 bytes were
+ * seen).
  *
  *     sundr_sha256             560        sundr_table_write      1,328
  *     sundr_compare              8        sundr_lookup             880
@@ -35,6 +36,8 @@
  *     sundr_server_make_at      24        sundr_block_check        672
  *     sundr_server_list_at   1,800        sundr_large_block_check  720
  *     sundr_server_commit      612        sundr_block_choose       656
+ *     sundr_store_make          24        sundr_retrieve           736
+ *     sundr_store              800        sundr_unreference        720
  */
 #ifndef SUNDR_H
 #define SUNDR_H
@@ -47,26 +50,29 @@ extern "C" {
 #endif
 
 /* The version of the library that this header belongs to. */
-#define SUNDR_VERSION "0.9.0"
+#define SUNDR_VERSION "0.10.0"
 #define SUNDR_VERSION_MAJOR 0
-#define SUNDR_VERSION_MINOR 9
+#define SUNDR_VERSION_MINOR 10
 #define SUNDR_VERSION_PATCH 0
 
 /* The numbers in bits 0 to 7 of an answer. */
 enum sundr_refusal_number {
 	SUNDR_ACCEPTED = 0,
-	SUNDR_USERS = 1,          /* the number of users is not 1 to 16, or the user not below it */
-	SUNDR_LENGTH = 2,         /* a length is not the stated one */
-	SUNDR_MALFORMED = 3,      /* a record, the order of owners, a block or an inode is malformed */
-	SUNDR_UNSIGNED = 4,       /* a signature mark is not 1 */
-	SUNDR_NOT_CURRENT = 5,    /* the own version is not the current one */
-	SUNDR_LAST_VERSION = 6,   /* the own version number is the last there is */
-	SUNDR_UNORDERED = 7,      /* two version structures are not ordered */
-	SUNDR_WRONG_HASH = 8,     /* a hash is not the expected one */
-	SUNDR_PATH_LENGTH = 9,    /* a path is too short or too long */
-	SUNDR_NO_BLOCK = 10,      /* the file has no such block */
-	SUNDR_NOT_ASCENDING = 11, /* an i-number is not above the one before */
-	SUNDR_NO_ROOM = 12        /* a buffer is shorter than what is to be written */
+	SUNDR_USERS = 1,           /* the number of users is not 1 to 16, or there is no such user */
+	SUNDR_LENGTH = 2,          /* a length is not the stated one */
+	SUNDR_MALFORMED = 3,       /* a record, the order of owners, a block, an inode or a place is malformed */
+	SUNDR_UNSIGNED = 4,        /* a signature mark is not 1 */
+	SUNDR_NOT_CURRENT = 5,     /* the own version is not the current one */
+	SUNDR_LAST_VERSION = 6,    /* the own version number is the last there is */
+	SUNDR_UNORDERED = 7,       /* two version structures are not ordered */
+	SUNDR_WRONG_HASH = 8,      /* a hash is not the expected one */
+	SUNDR_PATH_LENGTH = 9,     /* a path is too short or too long */
+	SUNDR_NO_BLOCK = 10,       /* the file has no such block */
+	SUNDR_NOT_ASCENDING = 11,  /* an i-number is not above the one before */
+	SUNDR_NO_ROOM = 12,        /* a buffer is shorter than what is to be written */
+	SUNDR_NO_PLACE = 13,       /* no place of the store is free, and one is needed */
+	SUNDR_LAST_REFERENCE = 14, /* the user's count of the block is the last there is */
+	SUNDR_NOT_HELD = 15        /* no place of the store holds the hash */
 };
 
 /* The refusal in an answer, SUNDR_ACCEPTED if there is none. */
@@ -101,7 +107,7 @@ static inline const char *sundr_refusal_text(unsigned number)
 	case SUNDR_LENGTH:
 		return "a length is not the one that is due: cut off, or too long";
 	case SUNDR_MALFORMED:
-		return "a record, the order of records, a block or an inode is malformed";
+		return "a record, the order of records, a block, an inode or a place of the store is malformed";
 	case SUNDR_UNSIGNED:
 		return "a record's signature is not good";
 	case SUNDR_NOT_CURRENT:
@@ -120,6 +126,12 @@ static inline const char *sundr_refusal_text(unsigned number)
 		return "the i-numbers do not ascend";
 	case SUNDR_NO_ROOM:
 		return "the buffer is too short for what is to be written";
+	case SUNDR_NO_PLACE:
+		return "the store is full: it does not hold this block, and has no free place for it";
+	case SUNDR_LAST_REFERENCE:
+		return "this user's count of the block is the last there is: it can be stored no further time";
+	case SUNDR_NOT_HELD:
+		return "the store holds no block of this hash";
 	default:
 		return "not a refusal of this version of the library";
 	}
@@ -561,6 +573,101 @@ static inline size_t sundr_chosen_len(uint64_t answer)
 {
 	return sundr_second(answer);
 }
+
+/* The bytes of a block store, its places, the bytes of each, and the longest block that one takes. */
+#define SUNDR_STORE_LEN 526464
+#define SUNDR_STORE_PLACES 64
+#define SUNDR_PLACE_LEN 8226
+#define SUNDR_BLOCK_MAX_LEN 8192
+
+/*
+ * A block store, 526,464 bytes: what a server keeps of its users' blocks, whatever these are, and
+ * for whom. It is 64 places end to end. Place p is the 8,226 bytes from store[8226 * p] on:
+ *
+ *     bytes  0 and 1                  the length of its block
+ *     bytes  2 + 2 * v and 3 + 2 * v  the count of user v, 0 to 15: how often that user has stored
+ *                                     the block, and not unreferenced it
+ *     bytes 34 to 8,225               the block, from byte 34 on; what is after it belongs to none
+ *
+ * Length and counts are big-endian. A place whose sixteen counts are all zero is free: it holds
+ * nothing, whatever its length and its bytes are, and keeps these until a block takes it. Any other
+ * place holds its block, be it that of no bytes, under the block's SHA-256. Held means by hash: where
+ * a hash is held, the bytes that are held stay. The lowest place that holds a hash is meant in every
+ * call; a higher one that holds it too is left alone.
+ *
+ * Any bytes may be lent as a store: a call goes by its places alone, and trusts nothing that it finds
+ * there. sundr_store_make() does not look at them; the other three calls refuse a place whose length
+ * is above 8,192, which no call writes, a free one too. Who the user is, the caller has to know:
+ * users are authenticated elsewhere, or one could unreference what another has stored. The sum of all
+ * counts is the number of accepted calls of sundr_store(), less those of sundr_unreference() that
+ * took one, since the store was made, if each call gets what the last one left.
+ */
+
+/*
+ * sundr_store_make: an empty store, in store[0..526464).
+ *
+ * Accepted: all its bytes are 0, so that each place is free, and both results are 0.
+ *
+ * Refused, with store as it was:
+ *   SUNDR_LENGTH   store_len is not 526,464.
+ */
+uint64_t sundr_store_make(uint8_t *store, size_t store_len);
+
+/*
+ * sundr_store: stores a block for a user. A block that is held already is counted once more, and
+ * takes no second place.
+ *
+ * Reads the block, of 0 to 8,192 bytes; that of no bytes can be stored too. Accepted, where a place
+ * holds the block's hash: the user's count in the lowest one is one more, and nothing else in the
+ * store is changed. Accepted, where none does: the lowest free place has the block's length, the
+ * block from byte 34 on, and 1 as the user's count; all other bytes are as they were, those after
+ * the block too. Both results are 0.
+ *
+ * Refused, with store as it was; tried in this order:
+ *   SUNDR_USERS            user is above 15.
+ *   SUNDR_LENGTH           store_len is not 526,464, or block_len is above 8,192.
+ *   SUNDR_MALFORMED        first: the lowest place whose length is above 8,192, free or not.
+ *   SUNDR_NO_PLACE         no place holds the block's hash, and none is free.
+ *   SUNDR_LAST_REFERENCE   the user's count is 65,535 in the lowest place that holds the hash.
+ */
+uint64_t sundr_store(uint8_t *store, size_t store_len, uint8_t user,
+	const uint8_t *block, size_t block_len);
+
+/*
+ * sundr_retrieve: the block of a hash, whoever stored it, and whoever asks.
+ *
+ * Reads the store and the hash. Accepted: the first result is the length n of the block in the
+ * lowest place that holds the hash, the block is in out[0..n), and the bytes of out after it are as
+ * they were. The second result is 0. The SHA-256 of out[0..n) is the hash. Room for 8,192 bytes is
+ * always enough.
+ *
+ * Refused, with out as it was; tried in this order:
+ *   SUNDR_LENGTH      store_len is not 526,464, or hash_len is not 32.
+ *   SUNDR_MALFORMED   first: the lowest place whose length is above 8,192, free or not.
+ *   SUNDR_NOT_HELD    no place holds the hash.
+ *   SUNDR_NO_ROOM     out_len is below n.
+ */
+uint64_t sundr_retrieve(const uint8_t *store, size_t store_len,
+	const uint8_t *hash, size_t hash_len,
+	uint8_t *out, size_t out_len);
+
+/*
+ * sundr_unreference: takes one from a user's count of a block. With the last one of all users' the
+ * place is free, and its room is given back.
+ *
+ * Reads the hash of the block. Accepted: the first result is 1, the user's count in the lowest place
+ * that holds the hash is one less, and nothing else in the store is changed, also where the place is
+ * free by that; or it is 0, that count was zero, and the store is as it was, also where a higher
+ * place holds the hash with another count of the user. The second result is 0.
+ *
+ * Refused, with store as it was; tried in this order:
+ *   SUNDR_USERS       user is above 15.
+ *   SUNDR_LENGTH      store_len is not 526,464, or hash_len is not 32.
+ *   SUNDR_MALFORMED   first: the lowest place whose length is above 8,192, free or not.
+ *   SUNDR_NOT_HELD    no place holds the hash.
+ */
+uint64_t sundr_unreference(uint8_t *store, size_t store_len, uint8_t user,
+	const uint8_t *hash, size_t hash_len);
 
 #ifdef __cplusplus
 }

@@ -13,7 +13,7 @@ pub struct Contest {
     pub sizes: &'static [usize],
     /// Those of them that have a row in the table, and bars; the others are for the curves.
     pub rows: &'static [usize],
-    /// How many of the bytes, users or questions are worked through at one go: some 10 milliseconds.
+    /// How many of the bytes, users, questions or refused calls are worked through at one go: some 10 milliseconds.
     go: usize,
     /// The library first.
     entries: &'static [Entry],
@@ -21,12 +21,14 @@ pub struct Contest {
 
 /// What speed and instructions are counted by.
 enum Measure {
-    /// Bytes that are hashed; a size is their number.
+    /// Bytes that are hashed, or written; a size is their number.
     Bytes,
     /// Calls; a size is a number of users.
     Calls,
     /// Questions, so many in a call; a size is the number of the bytes that are hashed.
     Questions(usize),
+    /// Calls that are refused with this number before anything is hashed; the size is 0.
+    Refused(u8),
 }
 
 struct Entry {
@@ -53,23 +55,38 @@ const CHOOSERS: [Entry; 2] = [entry("libsundr.a", "choose_sundr"), entry(HASHES,
 const MANY: Entry = entry("libsundr.a", "many_sundr");
 const MANY_SINGLES: Entry = entry("64 single lookups", "many_singles");
 const MANY_HASHES: Entry = entry(HASHES, "many_hashes");
+const RETRIEVE: Entry = entry("libsundr.a", "retrieve_sundr");
+const HELD_HASHES: Entry = entry(HASHES, "held_hashes");
+const STORERS: [Entry; 2] = [entry("libsundr.a", "store_sundr"), entry(HASHES, "store_hashes")];
+
+/// A call whose work is hashing; the size is what is hashed.
+const fn hashed(
+    title: &'static str,
+    call: &'static str,
+    size: &'static [usize; 1],
+    entries: &'static [Entry],
+) -> Contest {
+    Contest { title, call, measure: Measure::Bytes, sizes: size, rows: size, go: 2 << 20, entries }
+}
 
 /// What is done with an i-table or a file; the size, of all that is hashed, says what, as itable_work.h has it.
 const fn itable(title: &'static str, call: &'static str, size: &'static [usize; 1]) -> Contest {
-    Contest { title, call, measure: Measure::Bytes, sizes: size, rows: size, go: 2 << 20, entries: &ITABLE }
+    hashed(title, call, size, &ITABLE)
 }
 
 /// A choice between two parts of the same length, which the title has; the size is what is hashed.
 const fn choice(title: &'static str, size: &'static [usize; 1]) -> Contest {
-    Contest {
-        title,
-        call: "sundr_block_choose",
-        measure: Measure::Bytes,
-        sizes: size,
-        rows: size,
-        go: 2 << 20,
-        entries: &CHOOSERS,
-    }
+    hashed(title, "sundr_block_choose", size, &CHOOSERS)
+}
+
+/// A block that is retrieved from the last held place of a block store, as store_work.h has it.
+const fn retrieval(title: &'static str, size: &'static [usize; 1]) -> Contest {
+    hashed(title, "sundr_retrieve", size, &[RETRIEVE, HELD_HASHES])
+}
+
+/// A block that is stored once more, in the same place.
+const fn storing(title: &'static str, size: &'static [usize; 1]) -> Contest {
+    hashed(title, "sundr_store", size, &STORERS)
 }
 
 /// Lookups in one call, each along three blocks; the size is what is hashed, as many_work.h has it.
@@ -85,7 +102,7 @@ const fn many(title: &'static str, questions: usize, size: &'static [usize; 1], 
     }
 }
 
-pub const CONTESTS: [Contest; 20] = [
+pub const CONTESTS: [Contest; 31] = [
     Contest {
         title: "SHA-256",
         call: "sundr_sha256",
@@ -167,6 +184,41 @@ pub const CONTESTS: [Contest; 20] = [
     choice("The reply chosen, 8,192 bytes", &[8_192]),
     choice("The cache chosen, 642 bytes", &[2 * 642]),
     choice("The cache chosen, 8,192 bytes", &[2 * 8_192]),
+    // The block is in the last of the held places, and is accepted: each of them is hashed, and for a store the block
+    // that is brought too.
+    retrieval("Retrieved, 1 held of 8,192 bytes", &[8_192]),
+    retrieval("Retrieved, 32 held of 8,192 bytes", &[32 * 8_192]),
+    retrieval("Retrieved, 64 held of 8,192 bytes", &[64 * 8_192]),
+    retrieval("Retrieved, 64 held of 100 bytes", &[64 * 100]),
+    storing("Stored, 1 held of 8,192 bytes", &[2 * 8_192]),
+    storing("Stored, 32 held of 8,192 bytes", &[33 * 8_192]),
+    storing("Stored, 64 held of 8,192 bytes", &[65 * 8_192]),
+    storing("Stored, 64 held of 100 bytes", &[65 * 100]),
+    hashed(
+        "Unreferenced, 64 held of 8,192 bytes",
+        "sundr_unreference",
+        &[64 * 8_192],
+        &[entry("libsundr.a", "unreference_sundr"), HELD_HASHES],
+    ),
+    Contest {
+        title: "A block store made",
+        call: "sundr_store_make",
+        measure: Measure::Bytes,
+        sizes: &[526_464],
+        rows: &[526_464],
+        go: 1 << 30,
+        entries: &[entry("libsundr.a", "store_make_sundr"), entry("memset of its bytes", "store_make_memset")],
+    },
+    // Nobody is beside it: there is nothing to hash.
+    Contest {
+        title: "Retrieved from an empty store",
+        call: "sundr_retrieve",
+        measure: Measure::Refused(15),
+        sizes: &[0],
+        rows: &[0],
+        go: 20_000,
+        entries: &[RETRIEVE],
+    },
 ];
 
 impl Contest {
@@ -183,10 +235,20 @@ impl Contest {
     pub fn unit(&self) -> Unit {
         match self.measure {
             Measure::Bytes => Unit { instructions: " a byte", digits: 1, speed: "MB/s", one: 1e6 },
-            Measure::Calls => Unit { instructions: " a call", digits: 0, speed: "thousand calls/s", one: 1e3 },
+            Measure::Calls | Measure::Refused(_) => {
+                Unit { instructions: " a call", digits: 0, speed: "thousand calls/s", one: 1e3 }
+            }
             Measure::Questions(_) => {
                 Unit { instructions: " a question", digits: 0, speed: "thousand questions/s", one: 1e3 }
             }
+        }
+    }
+
+    /// The number of the refusal that the call ends with, if it does.
+    pub fn refused(&self) -> Option<u8> {
+        match self.measure {
+            Measure::Refused(number) => Some(number),
+            _ => None,
         }
     }
 
@@ -204,14 +266,15 @@ impl Contest {
         match self.measure {
             Measure::Bytes | Measure::Calls => self.go / size,
             Measure::Questions(questions) => self.go / questions,
+            Measure::Refused(_) => self.go,
         }
     }
 
     /// How often the work is done under callgrind, which is slow.
     pub fn times_counted(&self, size: usize) -> usize {
         match self.measure {
-            Measure::Bytes => (256 << 10) / size,
-            Measure::Calls => 2_000,
+            Measure::Bytes => ((256 << 10) / size).max(1),
+            Measure::Calls | Measure::Refused(_) => 2_000,
             Measure::Questions(questions) => 256 / questions,
         }
     }
@@ -220,7 +283,7 @@ impl Contest {
     pub fn amount(&self, size: usize, times: usize) -> f64 {
         match self.measure {
             Measure::Bytes => (size * times) as f64,
-            Measure::Calls => times as f64,
+            Measure::Calls | Measure::Refused(_) => times as f64,
             Measure::Questions(questions) => (questions * times) as f64,
         }
     }

@@ -34,6 +34,8 @@ pub struct Row {
     pub work: String,
     /// The library's function that does it.
     pub call: &'static str,
+    /// The number that it is refused with, if it is.
+    pub refused: Option<u8>,
     pub unit: Unit,
     /// A byte, a call or a question.
     pub instructions: Option<f64>,
@@ -75,31 +77,43 @@ pub fn table(rows: &[Row], commit: &str, machine: &str, runs: usize, rounds: usi
 | | instructions | stack, bytes | beside, and its instructions | ratio (least to greatest) | speed |
 |---|--:|--:|---|--:|--:|
 {}
-Instructions are callgrind's, a byte hashed, a call, or one of a call's questions; the stack is counted down to the
-lowest byte that the call writes. Both are the same in every run. The ratio is the call's speed over the other's, taken
-within a round of turns: the median of the {} rounds of {runs} runs, and in brackets the least and the greatest of the
-runs' medians. No run is left out. Speeds are the call's, by the processor's time on that machine, and move.
+Instructions are callgrind's, a byte hashed (of a store's making, a byte written), a call, or one of a call's questions;
+the stack is counted down to the lowest byte that the call writes. Both are the same in every run. The ratio is the
+call's speed over the other's, taken within a round of turns: the median of the {} rounds of {runs} runs, and in
+brackets the least and the greatest of the runs' medians. No run is left out. Speeds are the call's, by the processor's
+time on that machine, and move.
 ",
         rows.iter().map(lines).collect::<String>(),
         runs * rounds
     )
 }
 
-/// A row's lines, one for each other that is beside it; what is the library's stands in the first.
+/// A row's lines, one for each other that is beside it, or one alone; what is the library's stands in the first.
 fn lines(row: &Row) -> String {
     let instructions = count(row.instructions, &row.unit, row.unit.instructions);
     let speed = format!("{} {}", grouped(row.speed / row.unit.one), row.unit.speed);
-    let work = format!("{}: `{}`", row.work, row.call);
+    let refused = row.refused.map_or(String::new(), |number| format!(", refused with {number}"));
+    let work = format!("{}: `{}`{refused}", row.work, row.call);
     let mut library = [work, instructions, grouped(row.stack as f64), speed];
+    let mut others: Vec<[String; 2]> = row.besides.iter().map(|beside| other(beside, &row.unit)).collect();
+    if others.is_empty() {
+        others.push(Default::default());
+    }
     let mut lines = String::new();
-    for beside in &row.besides {
+    for [other, ratio] in others {
         let [work, instructions, stack, speed] = std::mem::take(&mut library);
-        let other = format!("{}: {}", beside.name, count(beside.instructions, &row.unit, ""));
-        let Ratio { median, least, greatest } = beside.ratio;
-        let ratio = format!("{median:.2} ({least:.2} to {greatest:.2})");
         lines += &format!("| {work} | {instructions} | {stack} | {other} | {ratio} | {speed} |\n");
     }
     lines
+}
+
+/// Another beside the library, with its instructions, and the ratio to it.
+fn other(beside: &Beside, unit: &Unit) -> [String; 2] {
+    let Ratio { median, least, greatest } = beside.ratio;
+    [
+        format!("{}: {}", beside.name, count(beside.instructions, unit, "")),
+        format!("{median:.2} ({least:.2} to {greatest:.2})"),
+    ]
 }
 
 /// The picture's curves, as a table.

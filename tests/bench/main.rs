@@ -80,6 +80,7 @@ impl Field {
         Row {
             work: self.contest.name(size),
             call: self.contest.call,
+            refused: self.contest.refused(),
             unit: self.contest.unit(),
             instructions: self.instructions(&self.contenders[0], size),
             stack: self.contenders[0].stack(size),

@@ -7,7 +7,7 @@
 #include "check.h"
 
 /* One above the last refusal. */
-enum { REFUSALS = 13 };
+enum { REFUSALS = 16 };
 
 /* Whether a sentence fits one line of a log or a dialogue. */
 static int is_a_line(const char *text)
@@ -35,7 +35,8 @@ int main(void)
 {
 	static const unsigned others[] = {REFUSALS, 255, 256, 256 + SUNDR_UNORDERED, INT_MAX, UINT_MAX};
 	static const char *const about[REFUSALS] = {"accepted", "user", "length", "malformed", "signature", "last version",
-		"no further version", "forked", "hash", "path", "no block", "ascend", "too short"};
+		"no further version", "forked", "hash", "path", "no block", "ascend", "too short", "no free place",
+		"count of the block", "holds no"};
 	char name[64];
 	unsigned i;
 
@@ -50,9 +51,9 @@ int main(void)
 	check("5: rolled back or hidden", is(SUNDR_NOT_CURRENT,
 		"the server's list does not continue your last version: rolled back, or your record is hidden"));
 	check("7: forked", is(SUNDR_UNORDERED, "two versions are not ordered: forked, or a record is hidden"));
-	check("13 is no refusal, and says so", is_a_line(sundr_refusal_text(REFUSALS)) && is_its_own(REFUSALS));
+	check("16 is no refusal, and says so", is_a_line(sundr_refusal_text(REFUSALS)) && is_its_own(REFUSALS));
 	for (i = 1; i < sizeof others / sizeof others[0]; i++) {
-		sprintf(name, "%u has the sentence of 13", others[i]);
+		sprintf(name, "%u has the sentence of 16", others[i]);
 		check(name, is(others[i], sundr_refusal_text(REFUSALS)));
 	}
 	return finish();

@@ -207,6 +207,72 @@ static void choose_too_long(void)
 	answer = sundr_block_choose(inode + 5, 32, block, sizeof block, message, sizeof message);
 }
 
+static void make_store(void)
+{
+	answer = sundr_store_make(written.made_store, sizeof written.made_store);
+}
+
+static void make_store_short(void)
+{
+	answer = sundr_store_make(written.made_store, sizeof written.made_store - 1);
+}
+
+/* User 15's count in the last place, so that a case finds it as every other time. */
+static void count_in_last(uint8_t count)
+{
+	written.store[SUNDR_PLACE_LEN * 63 + 2 + 2 * 15 + 1] = count;
+}
+
+static void store_again(void)
+{
+	count_in_last(2);
+	answer = sundr_store(written.store, sizeof written.store, 15, message, SUNDR_BLOCK_MAX_LEN - 63);
+}
+
+static void store_anew(void)
+{
+	count_in_last(0);
+	answer = sundr_store(written.store, sizeof written.store, 15, message, SUNDR_BLOCK_MAX_LEN - 63);
+}
+
+static void store_in_full(void)
+{
+	answer = sundr_store(store, sizeof store, 15, message + 1, SUNDR_BLOCK_MAX_LEN);
+}
+
+static void retrieve_last(void)
+{
+	answer = sundr_retrieve(store, sizeof store, stored_hash, sizeof stored_hash,
+		written.retrieved, sizeof written.retrieved);
+}
+
+static void retrieve_without_room(void)
+{
+	answer = sundr_retrieve(store, sizeof store, stored_hash, sizeof stored_hash,
+		written.retrieved, SUNDR_BLOCK_MAX_LEN - 64);
+}
+
+static void retrieve_other(void)
+{
+	answer = sundr_retrieve(store, sizeof store, handle, sizeof handle, written.retrieved, sizeof written.retrieved);
+}
+
+static void unreference_last(void)
+{
+	count_in_last(2);
+	answer = sundr_unreference(written.store, sizeof written.store, 15, stored_hash, sizeof stored_hash);
+}
+
+static void unreference_uncounted(void)
+{
+	answer = sundr_unreference(store, sizeof store, 14, stored_hash, sizeof stored_hash);
+}
+
+static void unreference_other(void)
+{
+	answer = sundr_unreference(store, sizeof store, 15, handle, sizeof handle);
+}
+
 /* The cases, those of a call together: the call, on what, what makes it, and the answer that is due. */
 static const struct {
 	const char *call, *on;
@@ -251,6 +317,18 @@ static const struct {
 	{"sundr_block_choose", "8,192 bytes, cached", choose_cached, ANSWER(SUNDR_ACCEPTED, 1, 8192)},
 	{"sundr_block_choose", "8,192 bytes twice, neither wanted", choose_neither, ANSWER(SUNDR_WRONG_HASH, 0, 0)},
 	{"sundr_block_choose", "65,537 bytes cached", choose_too_long, ANSWER(SUNDR_LENGTH, 0, 0)},
+	{"sundr_store_make", "526,464 bytes", make_store, ANSWER(SUNDR_ACCEPTED, 0, 0)},
+	{"sundr_store_make", "a byte short", make_store_short, ANSWER(SUNDR_LENGTH, 0, 0)},
+	{"sundr_store", "64 places held, in the last of them again", store_again, ANSWER(SUNDR_ACCEPTED, 0, 0)},
+	{"sundr_store", "63 places held, in the last anew", store_anew, ANSWER(SUNDR_ACCEPTED, 0, 0)},
+	{"sundr_store", "64 places held, in none of them", store_in_full, ANSWER(SUNDR_NO_PLACE, 0, 0)},
+	{"sundr_retrieve", "64 places held, from the last", retrieve_last,
+		ANSWER(SUNDR_ACCEPTED, SUNDR_BLOCK_MAX_LEN - 63, 0)},
+	{"sundr_retrieve", "64 places held, from the last, a byte short", retrieve_without_room, ANSWER(SUNDR_NO_ROOM, 0, 0)},
+	{"sundr_retrieve", "64 places held, from none", retrieve_other, ANSWER(SUNDR_NOT_HELD, 0, 0)},
+	{"sundr_unreference", "64 places held, from the last", unreference_last, ANSWER(SUNDR_ACCEPTED, 1, 0)},
+	{"sundr_unreference", "64 places held, nothing from the last", unreference_uncounted, ANSWER(SUNDR_ACCEPTED, 0, 0)},
+	{"sundr_unreference", "64 places held, from none", unreference_other, ANSWER(SUNDR_NOT_HELD, 0, 0)},
 };
 
 enum { CASES = sizeof cases / sizeof cases[0] };

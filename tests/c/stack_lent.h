@@ -39,11 +39,18 @@ static uint8_t counts[65], paths[65 * 3 * 642], altered_paths[64 * 3 * 642];
 static uint8_t inode[517], block[8192], file_handle[32];
 static uint8_t large_inode[549], indirect[4097], large_handle[32];
 
-/* All that the calls write. The record is committed to a server of its own. */
+/*
+ * A block store of which every place holds a block of user 15, place p the first 8,192 - p bytes of the message: so a hash
+ * ends with every number of bytes. The hash of the last place's block.
+ */
+static uint8_t store[SUNDR_STORE_LEN], stored_hash[32];
+
+/* All that the calls write. The record is committed to a server of its own, and blocks are stored in a store of their own. */
 static struct written {
 	uint8_t hash[5][32], next[98], made[1569], listed[16 * 98], blocks[273 * 642], found[32];
 	uint8_t entries[65 * 33], no_entries[64 * 33];
 	struct sundr_server server;
+	uint8_t made_store[SUNDR_STORE_LEN], store[SUNDR_STORE_LEN], retrieved[SUNDR_BLOCK_MAX_LEN];
 } written;
 
 static void fill_lists(void)
@@ -133,6 +140,23 @@ static void fill_large_file(void)
 	sundr_sha256(large_inode, sizeof large_inode, large_handle, sizeof large_handle);
 }
 
+/* After the message. */
+static void fill_store(void)
+{
+	size_t p;
+
+	for (p = 0; p < SUNDR_STORE_PLACES; p++) {
+		uint8_t *place = store + SUNDR_PLACE_LEN * p;
+		size_t len = SUNDR_BLOCK_MAX_LEN - p;
+
+		place[0] = (uint8_t)(len / 256);
+		place[1] = (uint8_t)(len % 256);
+		place[2 + 2 * 15 + 1] = 2;
+		memcpy(place + 34, message, len);
+	}
+	sundr_sha256(message, SUNDR_BLOCK_MAX_LEN - 63, stored_hash, sizeof stored_hash);
+}
+
 /* Makes ready for all the cases: all that they write is as if none had been made. */
 static void prepare_cases(void)
 {
@@ -145,8 +169,10 @@ static void prepare_cases(void)
 	fill_questions();
 	fill_file();
 	fill_large_file();
+	fill_store();
 	memset(&written, 0x5a, sizeof written);
 	written.server = server;
+	memcpy(written.store, store, sizeof store);
 }
 
 #endif

@@ -84,6 +84,18 @@ extern "C" {
         cached: *const u8,
         cached_len: usize,
     ) -> u64;
+
+    pub fn sundr_store_make(store: *mut u8, store_len: usize) -> u64;
+    pub fn sundr_store(store: *mut u8, store_len: usize, user: u8, block: *const u8, block_len: usize) -> u64;
+    pub fn sundr_retrieve(
+        store: *const u8,
+        store_len: usize,
+        hash: *const u8,
+        hash_len: usize,
+        out: *mut u8,
+        out_len: usize,
+    ) -> u64;
+    pub fn sundr_unreference(store: *mut u8, store_len: usize, user: u8, hash: *const u8, hash_len: usize) -> u64;
 }
 
 /// What a call answers, unpacked from its 64 bits: two results, or a refusal's number and two positions.

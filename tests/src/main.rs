@@ -2,7 +2,9 @@
 //! the papers alone. A piece has a file here with its checks, and one in `reference/`.
 
 mod alike;
+mod arguments;
 mod asked;
+mod blockstore;
 mod bounds;
 mod check;
 mod choose;
@@ -11,7 +13,9 @@ mod desk;
 mod faults;
 mod ffi;
 mod files;
+mod foreign;
 mod guarded;
+mod habits;
 mod handed;
 mod histories;
 mod indirect;
@@ -25,6 +29,7 @@ mod many;
 mod mixed;
 mod parts;
 mod paths;
+mod places;
 mod random;
 mod reference;
 mod runner;
@@ -32,7 +37,9 @@ mod runs;
 mod server;
 mod sha256;
 mod shared;
+mod stores;
 mod tables;
+mod tally;
 mod trees;
 
 use runner::Runner;
@@ -41,7 +48,7 @@ use std::sync::atomic::{AtomicUsize, Ordering};
 use std::thread;
 
 /// The checks of each piece.
-const PIECES: [fn(&mut Runner); 19] = [
+const PIECES: [fn(&mut Runner); 23] = [
     sha256::checks,
     compare::checks,
     check::checks,
@@ -61,6 +68,10 @@ const PIECES: [fn(&mut Runner); 19] = [
     alike::checks,
     choose::checks,
     handed::checks,
+    blockstore::checks,
+    foreign::checks,
+    places::checks,
+    arguments::checks,
 ];
 
 /// Two pieces at a time, as the proofs are checked: nothing is timed, and no two share memory.

@@ -11,6 +11,7 @@ pub mod many;
 pub mod server;
 pub mod sha256;
 pub mod standing;
+pub mod store;
 pub mod version;
 
 /// A refusal: its number and its two positions.
