@@ -215,7 +215,7 @@ static void fetch(struct client *desk, struct sundr_server *server, const char *
 
 static void legend(void)
 {
-	tell("\nSUNDR: files on a server that nobody has to trust. A story in ten scenes.\n");
+	tell("\nSUNDR: files on a server that nobody has to trust. A story in eleven scenes.\n");
 	tell("  user 0, the maintainer     keeps a driver tree on the server: %d files, of which file %d is",
 		FILES, CHANNEL_TABLE);
 	tell("                             the channel table, the radio channels that a board may use, and");
@@ -631,6 +631,112 @@ static void the_firmware_image(struct client *desk, struct sundr_server *server,
 	tell("However much of the old image fits together, no board is flashed with it.");
 }
 
+/* ---- The server's block store: 64 places, each with a length, a count for each user, and room for a block. ---- */
+
+static uint8_t store[SUNDR_STORE_LEN];
+
+/* Where a place has its length, its counts and its block. */
+enum { LENGTH_AT = 0, COUNTS_AT = 2, BLOCK_AT = COUNTS_AT + 2 * SUNDR_MAX_USERS };
+
+/* The number in two bytes of a place: its block's length, or a user's count. */
+static unsigned number_in(size_t place, size_t at)
+{
+	const uint8_t *bytes = store + SUNDR_PLACE_LEN * place + at;
+
+	return (unsigned)bytes[0] << 8 | bytes[1];
+}
+
+/* All counts of the places from this one on. */
+static unsigned counts_from(size_t place)
+{
+	unsigned sum = 0;
+	size_t at;
+
+	for (; place < SUNDR_STORE_PLACES; place++)
+		for (at = COUNTS_AT; at < BLOCK_AT; at += 2)
+			sum += number_in(place, at);
+	return sum;
+}
+
+/*
+ * A call, its answer, and how often each of the two users counts the block in place 0, which has to be so often. Nobody
+ * counts anything else.
+ */
+static void tell_counts(const char *call, const char *answer, unsigned maintainers, unsigned desks)
+{
+	must(number_in(0, COUNTS_AT + 2 * MAINTAINER) == maintainers, "the maintainer's count");
+	must(number_in(0, COUNTS_AT + 2 * RELEASE_DESK) == desks, "the release desk's count");
+	must(counts_from(0) == maintainers + desks && counts_from(1) == 0, "no other count");
+	tell("  %-27s%-30s%u %u", call, answer, maintainers, desks);
+}
+
+static void store_block(const struct client *client, const void *block, size_t len)
+{
+	must_accept(sundr_store(store, sizeof store, client->user, block, len), "a block for the store");
+}
+
+/* One that the user counts. */
+static void give_back(const struct client *client, const uint8_t *hash)
+{
+	uint64_t answer = sundr_unreference(store, sizeof store, client->user, hash, SUNDR_SHA256_LEN);
+
+	must_accept(answer, "a block that is held");
+	must(sundr_first(answer) == 1, "one that was taken");
+}
+
+/* The block of a hash, which has to be this text; the counts are as they were. */
+static void tell_retrieved(const uint8_t *hash, const char *due, unsigned maintainers, unsigned desks)
+{
+	uint8_t block[BLOCK_MAX];
+	char text[40];
+	uint64_t answer = sundr_retrieve(store, sizeof store, hash, SUNDR_SHA256_LEN, block, sizeof block);
+
+	must_accept(answer, "a block that is held");
+	must(sundr_first(answer) == strlen(due) && memcmp(block, due, strlen(due)) == 0, "the block that was stored");
+	snprintf(text, sizeof text, "%u bytes, \"%s\"", sundr_first(answer), due);
+	tell_counts("anybody retrieves it", text, maintainers, desks);
+}
+
+static void room_given_back(const struct client *maintainer, const struct client *desk, const struct sundr_server *server)
+{
+	static const char due[] = "channels 1 to 14", other[] = "channels 1 to 14, 36 to 64";
+	/* Slot 0 of a server's list is the maintainer's. */
+	struct reply reply = ask_server(sundr_i_handle(server->records), CHANNEL_TABLE);
+	const uint8_t *hash = reply.inode + 5;
+	uint8_t block[BLOCK_MAX];
+	char text[9];
+	uint64_t answer;
+
+	tell("\n11. Room that is given back\n");
+	tell("The server's own side: it keeps blocks in a store of %d places, each with a count for each user, and",
+		SUNDR_STORE_PLACES);
+	tell("has found out elsewhere who asks. The maintainer stores the block of the channel table. The release");
+	tell("desk stores the same bytes, and no second place is taken: one block is held, which both count.");
+	must_accept(sundr_store_make(store, sizeof store), "an empty store");
+	hex(hash, text);
+	tell("  block %s             answer                        place 0 counts, for users 0 and 1", text);
+	store_block(maintainer, reply.block, reply.block_len);
+	tell_counts("user 0 stores it", "accepted", 1, 0);
+	tell_retrieved(hash, due, 1, 0);
+	store_block(desk, reply.block, reply.block_len);
+	tell_counts("user 1 stores it", "accepted", 1, 1);
+	tell("Each gives it back, and it is held as long as one of them counts it:");
+	give_back(maintainer, hash);
+	tell_counts("user 0 gives it back", "1 taken", 0, 1);
+	tell_retrieved(hash, due, 0, 1);
+	give_back(desk, hash);
+	tell_counts("user 1 gives it back", "1 taken", 0, 0);
+	answer = sundr_retrieve(store, sizeof store, hash, SUNDR_SHA256_LEN, block, sizeof block);
+	must_refuse(answer, SUNDR_NOT_HELD, 0, 0);
+	tell_counts("anybody retrieves it", "refused with 15", 0, 0);
+	tell("  \"%s\"", sundr_refusal_text(sundr_refusal(answer)));
+	tell("The place is free, and the next block takes it:");
+	store_block(maintainer, other, strlen(other));
+	must(number_in(0, LENGTH_AT) == strlen(other), "the next block's length");
+	must(memcmp(store + BLOCK_AT, other, strlen(other)) == 0, "the next block in place 0");
+	tell_counts("user 0 stores another", "accepted, in place 0", 1, 0);
+}
+
 int main(int argc, char **argv)
 {
 	struct client maintainer = { .user = MAINTAINER };
@@ -653,6 +759,7 @@ int main(int argc, char **argv)
 	from_the_cache(&maintainer, &desk, &server, &old_disk);
 	a_builds_start(&desk, &server, &old_disk);
 	the_firmware_image(&desk, &server, &old_disk);
+	room_given_back(&maintainer, &desk, &server);
 	tell("\nAll came out as told, in the library and, where a bar stands, in the desk program too.");
 	return 0;
 }
