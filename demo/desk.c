@@ -9,13 +9,12 @@
 const char *desk_program;
 
 /* The lines that say a check's answer, as the desk program has to print them. */
-static void due_lines(uint8_t user, uint64_t answer, const uint8_t *next, char *lines, size_t size)
+static void due_lines(uint8_t user, uint64_t answer, const uint32_t *counts, char *lines, size_t size)
 {
 	int at = snprintf(lines, size, "desk %d of %d\n", user, USERS);
 
 	if (sundr_refusal(answer) == SUNDR_ACCEPTED)
-		snprintf(lines + at, size - at, "accept %u %u\n",
-			sundr_count(next, MAINTAINER), sundr_count(next, RELEASE_DESK));
+		snprintf(lines + at, size - at, "accept %u %u\n", counts[MAINTAINER], counts[RELEASE_DESK]);
 	else
 		snprintf(lines + at, size - at, "refuse %d %u %u\n",
 			sundr_refusal(answer), sundr_first(answer), sundr_second(answer));
@@ -41,7 +40,7 @@ static FILE *input(const struct client *client, const struct sent *sent)
 	return file;
 }
 
-void show_desk(const struct client *client, const struct sent *sent, uint64_t answer, const uint8_t *next)
+void show_desk(const struct client *client, const struct sent *sent, uint64_t answer, const uint32_t *counts)
 {
 	FILE *from = input(client, sent), *program;
 	char command[512], printed[512], due[64];
@@ -58,6 +57,6 @@ void show_desk(const struct client *client, const struct sent *sent, uint64_t an
 		printf("%s%c", i == 0 || printed[i - 1] == '\n' ? "    | " : "", printed[i]);
 	fflush(stdout);
 	must(pclose(program) == 0, "the desk program's end");
-	due_lines(client->user, answer, next, due, sizeof due);
+	due_lines(client->user, answer, counts, due, sizeof due);
 	must(len == strlen(due) && memcmp(printed, due, len) == 0, "what the desk program prints");
 }

@@ -42,7 +42,7 @@ static void must_refuse(uint64_t answer, enum sundr_refusal_number number, uint3
 	must(sundr_first(answer) == first && sundr_second(answer) == second, "the refusal's positions");
 }
 
-/* ---- An operation: the server's list is checked, and the new structure signed and committed. ---- */
+/* ---- An operation: the server's list is checked, and the new structure made, signed and committed. ---- */
 
 static struct sent send_list(const struct sundr_server *server)
 {
@@ -55,16 +55,37 @@ static struct sent send_list(const struct sundr_server *server)
 	return sent;
 }
 
-/* The client's check of a list. Accepted, the client signs its new structure and remembers it. */
-static uint64_t check(struct client *client, const struct sent *sent, int shown)
+/* Whose the server's lock is, from a listing to the commit. Meanwhile the server sends no list to anybody else. */
+enum { NOBODY = SUNDR_MAX_USERS };
+static uint8_t lock_of = NOBODY;
+
+/* Whether the server sends a client its list, or turns it away. */
+static int is_sent_list(const struct client *client, const struct sundr_server *server, struct sent *sent)
 {
-	uint8_t next[SUNDR_VERSION_LEN];
-	uint64_t answer = sundr_check(USERS, client->user, client->memory, client->memory_len,
-		sent->list, SUNDR_VERSION_LEN * sent->records, sent->marks, sent->records,
-		client->i_handle, SUNDR_HANDLE_LEN, next, sizeof next);
+	if (lock_of != NOBODY && lock_of != client->user)
+		return 0;
+	*sent = send_list(server);
+	return 1;
+}
+
+/* The client's check of a list. Accepted, it gives the counts of the client's next structure, and alters no memory. */
+static uint64_t check(const struct client *client, const struct sent *sent, uint32_t *counts, int shown)
+{
+	uint64_t answer = sundr_check_list(USERS, client->user, client->memory, client->memory_len,
+		sent->list, SUNDR_VERSION_LEN * sent->records, sent->marks, sent->records, counts, SUNDR_MAX_USERS);
 
 	if (shown)
-		show_desk(client, sent, answer, next);
+		show_desk(client, sent, answer, counts);
+	return answer;
+}
+
+/* The making step, from the counts of a check. Accepted, the client signs its new structure and remembers it. */
+static uint64_t create(struct client *client, const uint32_t *counts)
+{
+	uint8_t next[SUNDR_VERSION_LEN];
+	uint64_t answer = sundr_create(USERS, client->user, client->memory, client->memory_len,
+		counts, SUNDR_MAX_USERS, client->i_handle, SUNDR_HANDLE_LEN, next, sizeof next);
+
 	if (sundr_refusal(answer) == SUNDR_ACCEPTED) {
 		memcpy(client->memory, next, sizeof next);
 		client->memory_len = sizeof next;
@@ -75,9 +96,12 @@ static uint64_t check(struct client *client, const struct sent *sent, int shown)
 /* A turn that is accepted, at a server that takes it; gives the list that was checked. */
 static struct sent turn(struct client *client, struct sundr_server *server, int shown)
 {
-	struct sent sent = send_list(server);
+	struct sent sent;
+	uint32_t counts[SUNDR_MAX_USERS];
 
-	must_accept(check(client, &sent, shown), "a turn's check");
+	must(is_sent_list(client, server, &sent), "a turn's list");
+	must_accept(check(client, &sent, counts, shown), "a turn's check");
+	must_accept(create(client, counts), "a turn's making step");
 	must_accept(sundr_server_commit(server, client->memory, client->memory_len, 1), "a turn's commit");
 	return sent;
 }
@@ -215,7 +239,7 @@ static void fetch(struct client *desk, struct sundr_server *server, const char *
 
 static void legend(void)
 {
-	tell("\nSUNDR: files on a server that nobody has to trust. A story in eleven scenes.\n");
+	tell("\nSUNDR: files on a server that nobody has to trust. A story in twelve scenes.\n");
 	tell("  user 0, the maintainer     keeps a driver tree on the server: %d files, of which file %d is",
 		FILES, CHANNEL_TABLE);
 	tell("                             the channel table, the radio channels that a board may use, and");
@@ -287,6 +311,7 @@ static void tell_standing(const uint8_t *record, const uint8_t *other, enum sund
 static void the_old_disk(struct client *desk, const struct sundr_server *old_disk)
 {
 	struct sent sent = send_list(old_disk);
+	uint32_t counts[SUNDR_MAX_USERS];
 	uint64_t answer;
 
 	tell("\n2. The old disk\n");
@@ -294,7 +319,7 @@ static void the_old_disk(struct client *desk, const struct sundr_server *old_dis
 	tell("counts %u %u, fetches again, and is sent the list of the old disk:",
 		sundr_count(desk->memory, MAINTAINER), sundr_count(desk->memory, RELEASE_DESK));
 	tell_list(&sent);
-	answer = check(desk, &sent, 1);
+	answer = check(desk, &sent, counts, 1);
 	must_refuse(answer, SUNDR_NOT_CURRENT, 0, 0);
 	tell_refusal(answer);
 	tell("The release desk's record in that list is older than its last one, and not forked:");
@@ -307,6 +332,7 @@ static void the_fork(struct client *maintainer, struct client *desk, struct sund
 {
 	struct sundr_server shown_to_desk = *server;
 	struct sent sent;
+	uint32_t counts[SUNDR_MAX_USERS];
 	uint64_t answer;
 
 	tell("\n3. The fork\n");
@@ -323,7 +349,7 @@ static void the_fork(struct client *maintainer, struct client *desk, struct sund
 	sent = send_list(server);
 	memcpy(sent.list + SUNDR_VERSION_LEN, desk->memory, sizeof desk->memory);
 	tell_list(&sent);
-	answer = check(desk, &sent, 1);
+	answer = check(desk, &sent, counts, 1);
 	must_refuse(answer, SUNDR_UNORDERED, 0, 1);
 	tell_refusal(answer);
 	tell("Neither is merely older than the other, as their counts show:");
@@ -737,6 +763,96 @@ static void room_given_back(const struct client *maintainer, const struct client
 	tell_counts("user 0 stores another", "accepted, in place 0", 1, 0);
 }
 
+/* The card is touched: the maintainer's new structure is made from the counts of a check, and has these. */
+static void touch(struct client *maintainer, const uint32_t *counts)
+{
+	uint32_t made[SUNDR_MAX_USERS];
+
+	must_accept(create(maintainer, counts), "what a touch makes");
+	sundr_counts(maintainer->memory, made);
+	must(memcmp(made, counts, sizeof made) == 0, "the counts that the check gave");
+	tell("  touch          accepted   the new structure counts %u %u", made[MAINTAINER], made[RELEASE_DESK]);
+}
+
+/* What comes of a touch after another user's turn. The memory and the server are copies. */
+static void touch_late(struct client maintainer, struct sundr_server server, const uint32_t *counts)
+{
+	const struct sundr_server before = server;
+	const uint8_t *desks = server.records + SUNDR_VERSION_LEN * RELEASE_DESK;
+	struct sent sent;
+	uint32_t next[SUNDR_MAX_USERS];
+	uint64_t answer;
+
+	touch(&maintainer, counts);
+	answer = sundr_server_commit(&server, maintainer.memory, maintainer.memory_len, 1);
+	must_refuse(answer, SUNDR_UNORDERED, RELEASE_DESK, 0);
+	must(memcmp(&server, &before, sizeof server) == 0, "a server that takes nothing");
+	tell("  commit         %d at %u     %s", sundr_refusal(answer), sundr_first(answer),
+		sundr_refusal_text(sundr_refusal(answer)));
+	answer = create(&maintainer, counts);
+	must_refuse(answer, SUNDR_NOT_NEXT, 0, 0);
+	tell("  second touch   %d         %s", sundr_refusal(answer), sundr_refusal_text(sundr_refusal(answer)));
+	tell("The server refuses it at user 1, whose record counts %u %u: the new structure lacks that fetch, and is",
+		sundr_count(desks, MAINTAINER), sundr_count(desks, RELEASE_DESK));
+	tell("never taken. But it is signed and remembered, and what is signed cannot be taken back. No list of an");
+	tell("honest server has it: the maintainer is locked out.");
+	sent = send_list(&server);
+	must_refuse(check(&maintainer, &sent, next, 1), SUNDR_NOT_CURRENT, 0, 0);
+}
+
+/* The maintainer's turn with the card. Somebody who comes between the check and the touch has to be turned away. */
+static void card_turn(struct client *maintainer, struct sundr_server *server, const struct client *comes)
+{
+	struct sent sent;
+	uint32_t counts[SUNDR_MAX_USERS];
+
+	must(is_sent_list(maintainer, server, &sent), "the list before a touch");
+	must_accept(check(maintainer, &sent, counts, 1), "the check before a touch");
+	if (comes != NULL) {
+		must(!is_sent_list(comes, server, &sent), "a list that is not sent");
+		tell("  user %u comes   turned away: the lock is user %u's", comes->user, lock_of);
+	}
+	touch(maintainer, counts);
+	must_accept(sundr_server_commit(server, maintainer->memory, maintainer->memory_len, 1), "the commit after a touch");
+	tell("  commit         accepted");
+}
+
+static void the_card(struct client *maintainer, struct client *desk, struct sundr_server *server)
+{
+	struct sent sent;
+	uint32_t counts[SUNDR_MAX_USERS];
+
+	tell("\n12. The card\n");
+	tell("The maintainer's key is now a card, which somebody has to touch for each signature. For this there");
+	tell("are two calls: the check tells what a list is worth and gives the next counts; the making step makes");
+	tell("the new structure of them, once the card is touched. Both users start again, at an honest server.");
+	must_accept(sundr_server_make(USERS, server), "an empty server");
+	maintainer->memory_len = desk->memory_len = 0;
+	commit(maintainer, server, "channels 1 to 11");
+	tell("The release desk fetches it.");
+	fetch(desk, server, "channels 1 to 11", SHOWN);
+	tell("The maintainer checks the list, to commit a correction. But the card is not at hand.");
+	upload_tree("channels 1 to 13", maintainer->i_handle);
+	sent = send_list(server);
+	must_accept(check(maintainer, &sent, counts, 1), "the check without a card");
+	tell("Meanwhile the release desk fetches again.");
+	fetch(desk, server, "channels 1 to 11", SHOWN);
+	tell("Now the card is there, but the counts are overtaken. Suppose it is touched now: this is played on");
+	tell("copies of the maintainer's memory and of the server. The making step judges no list:");
+	touch_late(*maintainer, *server, counts);
+	tell("So it would be, but the card was not touched. The maintainer checks again, right before the touch:");
+	card_turn(maintainer, server, NULL);
+	tell("This is sound if no turn comes between that check and the commit. It is so for sure, however long the");
+	tell("touch takes, where the server keeps its lock from the listing to the commit. The next time it does,");
+	tell("and the release desk, which comes meanwhile, is sent no list:");
+	upload_tree("channels 1 to 14", maintainer->i_handle);
+	lock_of = MAINTAINER;
+	card_turn(maintainer, server, desk);
+	lock_of = NOBODY;
+	tell("The lock is free, and the release desk fetches.");
+	fetch(desk, server, "channels 1 to 14", SHOWN);
+}
+
 int main(int argc, char **argv)
 {
 	struct client maintainer = { .user = MAINTAINER };
@@ -760,6 +876,7 @@ int main(int argc, char **argv)
 	a_builds_start(&desk, &server, &old_disk);
 	the_firmware_image(&desk, &server, &old_disk);
 	room_given_back(&maintainer, &desk, &server);
+	the_card(&maintainer, &desk, &server);
 	tell("\nAll came out as told, in the library and, where a bar stands, in the desk program too.");
 	return 0;
 }

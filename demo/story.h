@@ -43,7 +43,7 @@ struct sent {
 };
 
 /* desk.c: puts a check to the desk program, and shows what it prints, which has to be the library's answer. */
-void show_desk(const struct client *client, const struct sent *sent, uint64_t answer, const uint8_t *next);
+void show_desk(const struct client *client, const struct sent *sent, uint64_t answer, const uint32_t *counts);
 extern const char *desk_program;
 
 /*

@@ -152,6 +152,7 @@ int main(int argc, char **argv)
 	uint8_t memory[SUNDR_VERSION_LEN + 1], handle[SUNDR_HANDLE_LEN + 1];
 	uint8_t entries[SUNDR_MAX_USERS * ENTRY_LEN + 1];
 	uint8_t list[sizeof entries], marks[sizeof entries], next[SUNDR_VERSION_LEN];
+	uint32_t counts[SUNDR_MAX_USERS];
 	size_t memory_len, handle_len, entries_len, list_len = 0, marks_len = 0, i;
 	uint8_t users, user;
 	uint64_t answer;
@@ -176,8 +177,21 @@ int main(int argc, char **argv)
 		else
 			list[list_len++] = entries[i];
 
-	answer = sundr_check(users, user, memory, memory_len, list, list_len, marks, marks_len,
-		handle, handle_len, next, sizeof next);
+	answer = sundr_check_list(users, user, memory, memory_len, list, list_len, marks, marks_len,
+		counts, SUNDR_MAX_USERS);
+	/*
+	 * Here a client whose key is a card asks for the touch, for it knows now what the list is worth.
+	 * The counts are those of this list. So the server keeps its lock from the listing to the commit;
+	 * or, once the card is there, the list is got and checked again. The making step judges no list:
+	 * from counts that another user's operation has overtaken it makes a structure all the same. The
+	 * server refuses that (7), and the client, which remembers it, is refused from then on (5).
+	 *
+	 * This client makes it at once, from the memory that was checked. So nothing is left to refuse but
+	 * an i-handle of another length (2). Counts that were used before would be refused too (16).
+	 */
+	if (sundr_refusal(answer) == SUNDR_ACCEPTED)
+		answer = sundr_create(users, user, memory, memory_len, counts, SUNDR_MAX_USERS,
+			handle, handle_len, next, sizeof next);
 	if (sundr_refusal(answer) != SUNDR_ACCEPTED) {
 		tell_refusal(answer, marks_len, memory_len);
 	} else {

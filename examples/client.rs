@@ -12,10 +12,11 @@ use std::path::Path;
 use std::process::ExitCode;
 
 const VERSION_LEN: usize = 98;
+const MAX_USERS: usize = 16;
 const MEMORY_POSITION: u32 = 16;
 
 extern "C" {
-    fn sundr_check(
+    fn sundr_check_list(
         users: u8,
         user: u8,
         memory: *const u8,
@@ -24,6 +25,17 @@ extern "C" {
         list_len: usize,
         marks: *const u8,
         marks_len: usize,
+        counts: *mut u32,
+        counts_len: usize,
+    ) -> u64;
+
+    fn sundr_create(
+        users: u8,
+        user: u8,
+        memory: *const u8,
+        memory_len: usize,
+        counts: *const u32,
+        counts_len: usize,
         handle: *const u8,
         handle_len: usize,
         out: *mut u8,
@@ -37,21 +49,22 @@ struct Refusal {
     second: u32,
 }
 
-/// The check of a server's list, and the client's next version structure.
-fn check(
-    users: u8,
-    user: u8,
-    memory: &[u8],
-    list: &[u8],
-    marks: &[u8],
-    handle: &[u8],
-) -> Result<[u8; VERSION_LEN], Refusal> {
-    let mut next = [0; VERSION_LEN];
-    // SAFETY: the header asks that each buffer's elements are all there and that the one that is written overlaps no
-    // other. Each pointer comes with the length of its own slice, and `next` is borrowed by nobody else. The call keeps
-    // no pointer, and takes whatever the bytes and the lengths are.
+/// What was written, if the answer is that the call accepted.
+fn accepted<T>(answer: u64, written: T) -> Result<T, Refusal> {
+    match answer as u8 {
+        0 => Ok(written),
+        number => Err(Refusal { number, first: (answer >> 8) as u32 & 0xff_ffff, second: (answer >> 32) as u32 }),
+    }
+}
+
+/// The check of a server's list, and the counts of the client's next version structure.
+fn check_list(users: u8, user: u8, memory: &[u8], list: &[u8], marks: &[u8]) -> Result<[u32; MAX_USERS], Refusal> {
+    let mut counts = [0; MAX_USERS];
+    // SAFETY: the header asks that each buffer's elements are all there, aligned, and that the one that is written
+    // overlaps no other. Each pointer comes with the length of its own slice, and `counts` is borrowed by nobody else.
+    // The call keeps no pointer, and takes whatever the bytes and the lengths are.
     let answer = unsafe {
-        sundr_check(
+        sundr_check_list(
             users,
             user,
             memory.as_ptr(),
@@ -60,29 +73,52 @@ fn check(
             list.len(),
             marks.as_ptr(),
             marks.len(),
+            counts.as_mut_ptr(),
+            counts.len(),
+        )
+    };
+    accepted(answer, counts)
+}
+
+/// The client's next version structure, from the counts that a check gave.
+fn create(
+    users: u8,
+    user: u8,
+    memory: &[u8],
+    counts: &[u32; MAX_USERS],
+    handle: &[u8],
+) -> Result<[u8; VERSION_LEN], Refusal> {
+    let mut next = [0; VERSION_LEN];
+    // SAFETY: as in check_list. It is `next` that is written.
+    let answer = unsafe {
+        sundr_create(
+            users,
+            user,
+            memory.as_ptr(),
+            memory.len(),
+            counts.as_ptr(),
+            counts.len(),
             handle.as_ptr(),
             handle.len(),
             next.as_mut_ptr(),
             next.len(),
         )
     };
-    match answer as u8 {
-        0 => Ok(next),
-        number => Err(Refusal { number, first: (answer >> 8) as u32 & 0xff_ffff, second: (answer >> 32) as u32 }),
-    }
+    accepted(answer, next)
 }
 
 impl Refusal {
-    /// The header's sentence for it, `sundr_refusal_text`, which only C can call; a check gives none but these.
+    /// The header's sentence for it, `sundr_refusal_text`, which only C can call; the two calls give none but these.
     fn text(&self) -> &'static str {
         match self.number {
             1 => "there is no such user: users are numbered from 0, and there are 1 to 16",
             2 => "a length is not the one that is due: cut off, or too long",
-            3 => "a record, the order of records, a block, an inode or a place of the store is malformed",
+            3 => "a record, the order of records, a count, a block, an inode or a place of the store is malformed",
             4 => "a record's signature is not good",
             5 => "the server's list does not continue your last version: rolled back, or your record is hidden",
             6 => "your version number is the last there is: this user can make no further version",
             7 => "two versions are not ordered: forked, or a record is hidden",
+            16 => "these counts are not your next version's: used before, or of no accepted check",
             _ => "not a refusal of this version of the library",
         }
     }
@@ -168,8 +204,10 @@ fn run(args: &[OsString]) -> Result<bool, String> {
         list.extend_from_slice(&entry[1..]);
     }
 
-    let checked = check(users, user, &memory, &list, &marks, &handle);
-    let line = match &checked {
+    // Between the two a card is touched, if the key is one: client.c says what that takes.
+    let made = check_list(users, user, &memory, &list, &marks)
+        .and_then(|counts| create(users, user, &memory, &counts, &handle));
+    let line = match &made {
         Err(refusal) => {
             format!("refused, {}: {}{}", refusal.number, refusal.text(), refusal.place(marks.len(), &memory))
         }
@@ -184,7 +222,7 @@ fn run(args: &[OsString]) -> Result<bool, String> {
         }
     };
     writeln!(io::stdout(), "{line}").map_err(at("standard output"))?;
-    Ok(checked.is_ok())
+    Ok(made.is_ok())
 }
 
 fn main() -> ExitCode {

@@ -10,14 +10,14 @@
  * pointer may be NULL where that number is 0; otherwise all the elements must be there. A
  * pointer without a number, to a struct, to the bytes of a version structure or to its sixteen
  * counts, points to all of it, and is never NULL. Where there are elements, it is aligned for
- * them, which matters for i-numbers and for sixteen counts alone. A buffer that a call writes (a
- * pointer to non-const) must not overlap another of its buffers. There is no other duty: whatever
- * the bytes, the numbers and the lengths are, each call ends, with the answer that its comment
- * gives.
+ * them, which matters for i-numbers (uint64_t) and for counts of operations (uint32_t) alone. A
+ * buffer that a call writes (a pointer to non-const) must not overlap another of its buffers.
+ * There is no other duty: whatever the bytes, the numbers and the lengths are, each call ends,
+ * with the answer that its comment gives.
  *
  * Answers. Each call answers one number of 64 bits:
  *
- *     bits  0 to  7   0 if the call accepted, else the number of the refusal (1 to 15)
+ *     bits  0 to  7   0 if the call accepted, else the number of the refusal (1 to 16)
  *     bits  8 to 31   accepted: the first result;   refused: the first position
  *     bits 32 to 63   accepted: the second result;  refused: the second position
  *
@@ -32,12 +32,13 @@
  *
  *     sundr_sha256             560        sundr_table_write      1,328
  *     sundr_compare              8        sundr_lookup             880
- *     sundr_check            2,244        sundr_lookup_many      1,216
- *     sundr_server_make_at      24        sundr_block_check        672
- *     sundr_server_list_at   1,800        sundr_large_block_check  720
- *     sundr_server_commit      612        sundr_block_choose       656
- *     sundr_store_make          24        sundr_retrieve           736
- *     sundr_store              800        sundr_unreference        720
+ *     sundr_check_list       2,228        sundr_lookup_many      1,216
+ *     sundr_create             120        sundr_block_check        672
+ *     sundr_server_make_at      24        sundr_large_block_check  720
+ *     sundr_server_list_at   1,800        sundr_block_choose       656
+ *     sundr_server_commit      612        sundr_retrieve           736
+ *     sundr_store_make          24        sundr_unreference        720
+ *     sundr_store              800
  */
 #ifndef SUNDR_H
 #define SUNDR_H
@@ -50,9 +51,9 @@ extern "C" {
 #endif
 
 /* The version of the library that this header belongs to. */
-#define SUNDR_VERSION "0.10.0"
+#define SUNDR_VERSION "0.11.0"
 #define SUNDR_VERSION_MAJOR 0
-#define SUNDR_VERSION_MINOR 10
+#define SUNDR_VERSION_MINOR 11
 #define SUNDR_VERSION_PATCH 0
 
 /* The numbers in bits 0 to 7 of an answer. */
@@ -60,7 +61,7 @@ enum sundr_refusal_number {
 	SUNDR_ACCEPTED = 0,
 	SUNDR_USERS = 1,           /* the number of users is not 1 to 16, or there is no such user */
 	SUNDR_LENGTH = 2,          /* a length is not the stated one */
-	SUNDR_MALFORMED = 3,       /* a record, the order of owners, a block, an inode or a place is malformed */
+	SUNDR_MALFORMED = 3,       /* a record, the order of owners, a count, a block, an inode or a place is malformed */
 	SUNDR_UNSIGNED = 4,        /* a signature mark is not 1 */
 	SUNDR_NOT_CURRENT = 5,     /* the own version is not the current one */
 	SUNDR_LAST_VERSION = 6,    /* the own version number is the last there is */
@@ -72,7 +73,8 @@ enum sundr_refusal_number {
 	SUNDR_NO_ROOM = 12,        /* a buffer is shorter than what is to be written */
 	SUNDR_NO_PLACE = 13,       /* no place of the store is free, and one is needed */
 	SUNDR_LAST_REFERENCE = 14, /* the user's count of the block is the last there is */
-	SUNDR_NOT_HELD = 15        /* no place of the store holds the hash */
+	SUNDR_NOT_HELD = 15,       /* no place of the store holds the hash */
+	SUNDR_NOT_NEXT = 16        /* the counts are not those of the user's next version */
 };
 
 /* The refusal in an answer, SUNDR_ACCEPTED if there is none. */
@@ -107,7 +109,7 @@ static inline const char *sundr_refusal_text(unsigned number)
 	case SUNDR_LENGTH:
 		return "a length is not the one that is due: cut off, or too long";
 	case SUNDR_MALFORMED:
-		return "a record, the order of records, a block, an inode or a place of the store is malformed";
+		return "a record, the order of records, a count, a block, an inode or a place of the store is malformed";
 	case SUNDR_UNSIGNED:
 		return "a record's signature is not good";
 	case SUNDR_NOT_CURRENT:
@@ -132,6 +134,8 @@ static inline const char *sundr_refusal_text(unsigned number)
 		return "this user's count of the block is the last there is: it can be stored no further time";
 	case SUNDR_NOT_HELD:
 		return "the store holds no block of this hash";
+	case SUNDR_NOT_NEXT:
+		return "these counts are not your next version's: used before, or of no accepted check";
 	default:
 		return "not a refusal of this version of the library";
 	}
@@ -164,7 +168,7 @@ uint64_t sundr_sha256(const uint8_t *message, size_t message_len,
  * version structure list (VSL) is such records end to end.
  *
  * What a version structure says is worth something once a check has accepted it: read the records
- * of a list after sundr_check() accepted the list, and not before, unless it is to tell, by
+ * of a list after sundr_check_list() accepted the list, and not before, unless it is to tell, by
  * sundr_compare(), why the list was refused.
  */
 
@@ -222,26 +226,31 @@ enum sundr_standing {
  */
 uint64_t sundr_compare(const uint32_t x[SUNDR_MAX_USERS], const uint32_t y[SUNDR_MAX_USERS]);
 
-/* The first position of a refusal of sundr_check() that means memory, and no record of the list. */
+/*
+ * The first position of a refusal of sundr_check_list() or sundr_create() that means memory: no
+ * record of the list has it, and no count.
+ */
 #define SUNDR_MEMORY_POSITION 16
 
 /*
- * sundr_check: a client's check of the server's version structure list, and its next version
- * structure.
+ * sundr_check_list: a client's check of the server's version structure list, and the counts of its
+ * next version structure. It tells what a list is worth before anything is made, or signed.
  *
  * Reads the number of users, the client's own user, the client's current version structure
- * memory[0..memory_len) (98 bytes, or none where it has none yet), the list, a mark for each of
- * its records (1 if the caller found the record's signature good), and the new i-handle.
- * Accepted: the client's next version structure is in out[0..98), and both results are 0. To
- * sign it, and to keep it as the next call's memory, is the caller's: written to disk, and there
- * for good, before it is sent. A client that sent a structure and forgot it is refused from then
- * on, or signs a second one of the same count, which forks its own history.
+ * memory[0..memory_len) (98 bytes, or none where it has none yet), the list, and a mark for each of
+ * its records (1 if the caller found the record's signature good). Accepted: the sixteen counts are
+ * in counts[0..16), as numbers of the machine and not as bytes, and both results are 0. Of each
+ * other user the next structure counts the own count of that user's record in the list, 0 where
+ * there is none; and of the client's own user one more than memory does, or 1 without a memory.
  *
- * Refused, with out as it was; tried in this order, each over all records before the next:
+ * Nothing else is written, nothing is made, and nothing is kept: a check can be made any number of
+ * times, and memory stays what it is. What it says is of this list and of this moment: the server's
+ * next list may have what these counts do not count.
+ *
+ * Refused, with counts as they were; tried in this order, each over all records before the next:
  *   SUNDR_USERS         users is not 1 to 16, or user is not below users.
  *   SUNDR_LENGTH        memory_len is not 0 or 98, list_len is not a multiple of 98 or is above
- *                       98 * users, marks_len is not list_len / 98, handle_len is not 32, or
- *                       out_len is not 98.
+ *                       98 * users, marks_len is not list_len / 98, or counts_len is not 16.
  *   SUNDR_MALFORMED     first SUNDR_MEMORY_POSITION: memory is not well formed, or not the
  *                       client's own; else first is the first record that is not well formed,
  *                       or whose owner is not above the owner before.
@@ -251,16 +260,54 @@ uint64_t sundr_compare(const uint32_t x[SUNDR_MAX_USERS], const uint32_t y[SUNDR
  *   SUNDR_LAST_VERSION  memory counts 4,294,967,295 operations of the user.
  *   SUNDR_UNORDERED     first, second: the least pair of records of which neither is at or
  *                       before the other; where second is the number of records, it means the
- *                       new structure, and the first is not strictly before it.
+ *                       next structure, by its counts, and the first is not strictly before it.
  *
- * How two version structures stand to each other, older, newer or forked, sundr_compare() tells.
- * The new structure counts, of each user, the own count of that user's record in the list, 0 where
- * there is none; and of the client's own user one more than memory does.
+ * What stands in counts where a list is refused, perhaps of an earlier check, is not of this list:
+ * make nothing of it. How two version structures stand to each other, older, newer or forked,
+ * sundr_compare() tells.
  */
-uint64_t sundr_check(uint8_t users, uint8_t user,
+uint64_t sundr_check_list(uint8_t users, uint8_t user,
 	const uint8_t *memory, size_t memory_len,
 	const uint8_t *list, size_t list_len,
 	const uint8_t *marks, size_t marks_len,
+	uint32_t *counts, size_t counts_len);
+
+/*
+ * sundr_create: a client's next version structure, from the counts that a check gave.
+ *
+ * Reads the number of users, the client's own user, memory as sundr_check_list() does, the sixteen
+ * counts, and the new i-handle. Accepted: the structure of that user, that i-handle and those
+ * counts is in out[0..98), and both results are 0.
+ *
+ * It judges no list and no order, and does not know whose counts these are: those of other users
+ * are written as they are given, also where they are lower than memory's. To give it the counts of
+ * a check that accepted, at the same client, is the caller's: that no client accepts a list which
+ * joins two sides of a fork rests on this.
+ *
+ * To sign the structure, and to keep it as the next calls' memory, is the caller's too: written to
+ * disk, and there for good, before it is sent. A client that sent a structure and forgot it is
+ * refused from then on, or signs a second one of the same count, which forks its own history.
+ *
+ * Counts go stale. Where another user has committed since the list was taken, an honest server
+ * refuses what is made of them (sundr_server_commit(): SUNDR_UNORDERED). Its client remembers it
+ * all the same, and is locked out: no list of an honest server will have it, and each check of one
+ * is refused from then on (SUNDR_NOT_CURRENT). So check again right before a structure is made and
+ * signed, or, to leave no gap, hold the server's lock from the listing to the commit.
+ *
+ * Refused, with out as it was; tried in this order:
+ *   SUNDR_USERS         users is not 1 to 16, or user is not below users.
+ *   SUNDR_LENGTH        memory_len is not 0 or 98, counts_len is not 16, handle_len is not 32, or
+ *                       out_len is not 98.
+ *   SUNDR_MALFORMED     first SUNDR_MEMORY_POSITION: memory is not well formed, or not the
+ *                       client's own; else first 0, whichever count it is: a count of a user from
+ *                       users to 15 is not 0.
+ *   SUNDR_LAST_VERSION  memory counts 4,294,967,295 operations of the user.
+ *   SUNDR_NOT_NEXT      the count of the user is not one more than memory's, or not 1 without a
+ *                       memory: the counts were used before, say, or are of no accepted check.
+ */
+uint64_t sundr_create(uint8_t users, uint8_t user,
+	const uint8_t *memory, size_t memory_len,
+	const uint32_t *counts, size_t counts_len,
 	const uint8_t *handle, size_t handle_len,
 	uint8_t *out, size_t out_len);
 

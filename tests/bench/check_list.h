@@ -7,7 +7,8 @@
 
 #include "worker.h"
 
-static uint8_t list[16 * 98], marks[16], handle[32], new[98];
+static uint8_t list[16 * 98], marks[16];
+static uint32_t counts[16];
 static uint8_t users, user;
 
 /* The place of a user's operation in the order in which they were made; 5 is odd, the users 2, 8 or 16. */
@@ -37,8 +38,8 @@ static void fill(size_t size)
 
 size_t result(const uint8_t **bytes)
 {
-	*bytes = new;
-	return sizeof new;
+	*bytes = (const uint8_t *)counts;
+	return sizeof counts;
 }
 
 #endif

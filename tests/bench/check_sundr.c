@@ -8,7 +8,7 @@ void prepare(size_t size)
 
 void work(void)
 {
-	if (sundr_check(users, user, list + 98 * user, 98, list, 98 * (size_t)users, marks, users,
-			handle, sizeof handle, new, sizeof new) != SUNDR_ACCEPTED)
+	if (sundr_check_list(users, user, list + 98 * user, 98, list, 98 * (size_t)users, marks, users,
+			counts, 16) != SUNDR_ACCEPTED)
 		abort();
 }

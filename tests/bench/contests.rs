@@ -102,7 +102,7 @@ const fn many(title: &'static str, questions: usize, size: &'static [usize; 1], 
     }
 }
 
-pub const CONTESTS: [Contest; 31] = [
+pub const CONTESTS: [Contest; 32] = [
     Contest {
         title: "SHA-256",
         call: "sundr_sha256",
@@ -131,12 +131,22 @@ pub const CONTESTS: [Contest; 31] = [
     // A list with a record of each user, which is accepted.
     Contest {
         title: "A client's check",
-        call: "sundr_check",
+        call: "sundr_check_list",
         measure: Measure::Calls,
         sizes: &[16, 8, 2],
         rows: &[16, 8, 2],
         go: 200_000,
         entries: &[entry("libsundr.a", "check_sundr"), entry(REFERENCE, "check_reference")],
+    },
+    // Of the counts that such a check gives.
+    Contest {
+        title: "A version structure made, 16 users",
+        call: "sundr_create",
+        measure: Measure::Calls,
+        sizes: &[16],
+        rows: &[16],
+        go: 4_000_000,
+        entries: &[entry("libsundr.a", "create_sundr"), entry(REFERENCE, "create_reference")],
     },
     Contest {
         title: "A server made, 16 users",

@@ -1,5 +1,5 @@
-/* The second implementation, tests/src/reference, as reference.rs, reference_server.rs and reference_standing.rs
- * export it. */
+/* The second implementation, tests/src/reference, as reference.rs, reference_create.rs, reference_server.rs and
+ * reference_standing.rs export it. */
 #ifndef REFERENCE_H
 #define REFERENCE_H
 
@@ -16,6 +16,10 @@ uint8_t reference_compare(const uint32_t x[16], const uint32_t y[16]);
  * refusal's number.
  */
 uint8_t reference_check(uint8_t users, uint8_t user, const uint8_t list[16 * 98], const uint8_t marks[16],
+	uint32_t counts[16]);
+
+/* The making step, where something is remembered. Gives 0, or the refusal's number. */
+uint8_t reference_create(uint8_t users, uint8_t user, const uint8_t memory[98], const uint32_t counts[16],
 	const uint8_t handle[32], uint8_t out[98]);
 
 /* Gives 0, or the refusal's number. */

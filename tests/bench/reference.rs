@@ -16,14 +16,13 @@ pub extern "C" fn reference_check(
     user: u8,
     list: &[u8; RECORD * USERS],
     marks: &[u8; USERS],
-    handle: &[u8; 32],
-    out: &mut [u8; RECORD],
+    counts: &mut [u32; USERS],
 ) -> u8 {
     let records = usize::from(users);
     let memory = &list[RECORD * usize::from(user)..][..RECORD];
-    match check(users, user, memory, &list[..RECORD * records], &marks[..records], handle, out.len()) {
+    match check(users, user, memory, &list[..RECORD * records], &marks[..records], counts.len()) {
         Ok(new) => {
-            *out = new;
+            *counts = new;
             0
         }
         Err(refusal) => refusal.0,

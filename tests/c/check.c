@@ -1,4 +1,4 @@
-/* The papers' examples of a client's check, and a server's session, through include/sundr.h. */
+/* The papers' examples of a client's check, by the counts that it gives, and a server's session, through include/sundr.h. */
 #define _DEFAULT_SOURCE /* MAP_ANONYMOUS */
 
 #include "sundr.h"
@@ -7,80 +7,45 @@
 #include <string.h>
 #include <sys/mman.h>
 
-#include "bytes.h"
 #include "check.h"
+#include "examples.h"
 
-/* A user's version structure with two counts and an i-handle of one byte, repeated. */
-struct version {
-	uint8_t owner, handle;
-	uint32_t a, b;
-};
-
-static void encode(uint8_t record[98], struct version v)
-{
-	memset(record, 0, 98);
-	record[0] = 1;
-	record[1] = v.owner;
-	memset(record + 2, v.handle, 32);
-	put(record + 34, v.a);
-	put(record + 38, v.b);
-}
-
-/* What a client of two users is given: a memory (memory_len 0 or 98) and up to two records. */
-struct given {
-	uint8_t user, memory[98], list[2 * 98], marks[2], handle[32];
-	size_t memory_len, records;
-};
-
-static struct given given(uint8_t user)
-{
-	struct given g;
-
-	memset(&g, 0, sizeof g);
-	g.user = user;
-	memset(g.handle, 0xc7, sizeof g.handle);
-	return g;
-}
-
-static void remember(struct given *g, struct version v)
-{
-	encode(g->memory, v);
-	g->memory_len = 98;
-}
-
-static void add(struct given *g, struct version v)
-{
-	encode(g->list + 98 * g->records, v);
-	g->marks[g->records++] = 1;
-}
-
-/* The answer's bytes with room around them, so that a byte written outside is seen. */
+/* The sixteen counts with room around them, so that one written outside is seen. */
 struct answer {
-	uint8_t before[32], out[98], after[32];
+	uint32_t before[8], counts[16], after[8];
 };
+
+/* Sixteen counts in memory that can be read and not written. */
+static const uint32_t locked[16];
+
+static uint64_t ask_into(const struct given *g, uint32_t *counts)
+{
+	return sundr_check_list(2, g->user, g->memory, g->memory_len, g->list, 98 * g->records,
+		g->marks, g->records, counts, 16);
+}
 
 static uint64_t ask(const struct given *g, struct answer *a)
 {
 	memset(a, 0x5a, sizeof *a);
-	return sundr_check(2, g->user, g->memory, g->memory_len, g->list, 98 * g->records,
-		g->marks, g->records, g->handle, sizeof g->handle, a->out, sizeof a->out);
+	return ask_into(g, a->counts);
 }
 
-/* Whether the list is accepted, the new structure has these counts, and no byte beside it is written. */
+/* Whether the list is accepted, these are the counts, those of users 2 to 15 are 0, and nothing beside them is written. */
 static int accepts(struct given g, uint32_t a, uint32_t b)
 {
 	struct given before = g;
 	struct answer got, due;
-	struct version new = {g.user, 0xc7, a, b};
 	uint64_t answer = ask(&g, &got);
 
 	memset(&due, 0x5a, sizeof due);
-	encode(due.out, new);
+	memset(due.counts, 0, sizeof due.counts);
+	due.counts[0] = a;
+	due.counts[1] = b;
 	return answer == SUNDR_ACCEPTED && memcmp(&got, &due, sizeof due) == 0
 		&& memcmp(&g, &before, sizeof g) == 0;
 }
 
-/* Whether the list is refused with this number and these positions, and no byte is written. */
+/* Whether the list is refused with this number and these positions, and no count is written: they may be read-only. */
 static int refuses(struct given g, enum sundr_refusal_number number, uint32_t first, uint32_t second)
 {
 	struct given before = g;
@@ -89,82 +54,15 @@ static int refuses(struct given g, enum sundr_refusal_number number, uint32_t fi
 
 	memset(&due, 0x5a, sizeof due);
 	return sundr_refusal(answer) == number && sundr_first(answer) == first && sundr_second(answer) == second
-		&& memcmp(&got, &due, sizeof due) == 0 && memcmp(&g, &before, sizeof g) == 0;
-}
-
-/* User 0 is A, user 1 is B; the i-handle of a structure plays no part. */
-static struct version A(uint32_t a, uint32_t b)
-{
-	struct version v = {0, 0x11, a, b};
-	return v;
-}
-
-static struct version B(uint32_t a, uint32_t b)
-{
-	struct version v = {1, 0, a, b};
-	return v;
-}
-
-static void examples(void)
-{
-	struct given g = given(0);
-
-	check("P1: A's first operation", accepts(g, 1, 0));
-
-	g = given(1);
-	add(&g, A(1, 0));
-	check("P2: B's first operation", accepts(g, 1, 1));
-
-	g = given(0);
-	remember(&g, A(1, 0));
-	add(&g, A(1, 0));
-	add(&g, B(1, 1));
-	check("P3: A's second operation", accepts(g, 2, 1));
-
-	g = given(1);
-	remember(&g, B(1, 1));
-	add(&g, A(1, 0));
-	add(&g, B(1, 1));
-	check("P4: B's second operation, a fork after P3", accepts(g, 1, 2));
-
-	g = given(1);
-	remember(&g, B(1, 2));
-	add(&g, A(2, 1));
-	add(&g, B(1, 2));
-	check("P5: the fork is not joined", refuses(g, SUNDR_UNORDERED, 0, 1));
-
-	g = given(0);
-	remember(&g, A(2, 1));
-	check("P6: an empty list, but A remembers", refuses(g, SUNDR_NOT_CURRENT, 0, 0));
-	add(&g, A(1, 0));
-	add(&g, B(1, 1));
-	check("P6: an older record of A's own", refuses(g, SUNDR_NOT_CURRENT, 0, 0));
-
-	g = given(0);
-	add(&g, B(1, 1));
-	check("P7: a record that equals the new structure", refuses(g, SUNDR_UNORDERED, 0, 1));
-
-	g = given(0);
-	add(&g, B(0, 0));
-	g.marks[0] = 0;
-	check("P8: malformed and unsigned", refuses(g, SUNDR_MALFORMED, 0, 0));
-
-	g = given(0);
-	remember(&g, A(4294967294, 0));
-	add(&g, A(4294967294, 0));
-	check("P9: the last number", accepts(g, 4294967295, 0));
-
-	g = given(0);
-	remember(&g, A(4294967295, 0));
-	add(&g, A(4294967295, 0));
-	check("P10: after the last number", refuses(g, SUNDR_LAST_VERSION, 0, 0));
+		&& memcmp(&got, &due, sizeof due) == 0 && memcmp(&g, &before, sizeof g) == 0
+		&& ask_into(&g, (uint32_t *)locked) == answer;
 }
 
 /* Refusals that the examples do not come to, and buffers at NULL. */
 static void refusals(void)
 {
 	struct given g = given(2);
-	uint8_t out[98];
+	uint32_t counts[17];
 
 	check("a user that there is not", refuses(g, SUNDR_USERS, 0, 0));
 
@@ -190,10 +88,26 @@ static void refusals(void)
 	check("a mark of 2", refuses(g, SUNDR_UNSIGNED, 1, 0));
 
 	g = given(0);
+	remember(&g, A(4294967295, 0));
+	add(&g, B(0, 1));
+	check("the last number, and the list does not have it", refuses(g, SUNDR_NOT_CURRENT, 0, 0));
+	g.records = 0;
+	add(&g, A(4294967295, 0));
+	add(&g, B(0, 1));
+	check("the last number, and a fork", refuses(g, SUNDR_LAST_VERSION, 0, 0));
+
 	check("no memory, no list, no marks, at NULL",
-		sundr_check(1, 0, NULL, 0, NULL, 0, NULL, 0, g.handle, 32, out, 98) == SUNDR_ACCEPTED);
-	check("no room for the answer, at NULL", sundr_refusal(
-		sundr_check(1, 0, NULL, 0, NULL, 0, NULL, 0, g.handle, 32, NULL, 0)) == SUNDR_LENGTH);
+		sundr_check_list(1, 0, NULL, 0, NULL, 0, NULL, 0, counts, 16) == SUNDR_ACCEPTED);
+	check("no counts, at NULL", sundr_check_list(1, 0, NULL, 0, NULL, 0, NULL, 0, NULL, 0) == SUNDR_LENGTH);
+	check("fifteen counts, and seventeen",
+		sundr_check_list(1, 0, NULL, 0, NULL, 0, NULL, 0, (uint32_t *)locked, 15) == SUNDR_LENGTH
+		&& sundr_check_list(1, 0, NULL, 0, NULL, 0, NULL, 0, counts, 17) == SUNDR_LENGTH);
+	g = given(0);
+	remember(&g, B(0, 1));
+	add(&g, B(0, 0));
+	check("fifteen counts, after the users and before all that is read",
+		sundr_check_list(2, 2, g.memory, 98, g.list, 98, g.marks, 1, counts, 15) == SUNDR_USERS
+		&& sundr_check_list(2, 0, g.memory, 98, g.list, 98, g.marks, 1, counts, 15) == SUNDR_LENGTH);
 }
 
 /* Whether the server's list is these records, with the bytes after them as they were. */
@@ -291,7 +205,7 @@ static void session(void)
 
 int main(void)
 {
-	examples();
+	examples(accepts, refuses);
 	refusals();
 	session();
 	return finish();

@@ -7,7 +7,7 @@
 #include "check.h"
 
 /* One above the last refusal. */
-enum { REFUSALS = 16 };
+enum { REFUSALS = 17 };
 
 /* Whether a sentence fits one line of a log or a dialogue. */
 static int is_a_line(const char *text)
@@ -36,7 +36,7 @@ int main(void)
 	static const unsigned others[] = {REFUSALS, 255, 256, 256 + SUNDR_UNORDERED, INT_MAX, UINT_MAX};
 	static const char *const about[REFUSALS] = {"accepted", "user", "length", "malformed", "signature", "last version",
 		"no further version", "forked", "hash", "path", "no block", "ascend", "too short", "no free place",
-		"count of the block", "holds no"};
+		"count of the block", "holds no", "not your next version"};
 	char name[64];
 	unsigned i;
 
@@ -51,9 +51,11 @@ int main(void)
 	check("5: rolled back or hidden", is(SUNDR_NOT_CURRENT,
 		"the server's list does not continue your last version: rolled back, or your record is hidden"));
 	check("7: forked", is(SUNDR_UNORDERED, "two versions are not ordered: forked, or a record is hidden"));
-	check("16 is no refusal, and says so", is_a_line(sundr_refusal_text(REFUSALS)) && is_its_own(REFUSALS));
+	check("16: used before, or of no accepted check", is(SUNDR_NOT_NEXT,
+		"these counts are not your next version's: used before, or of no accepted check"));
+	check("17 is no refusal, and says so", is_a_line(sundr_refusal_text(REFUSALS)) && is_its_own(REFUSALS));
 	for (i = 1; i < sizeof others / sizeof others[0]; i++) {
-		sprintf(name, "%u has the sentence of 16", others[i]);
+		sprintf(name, "%u has the sentence of 17", others[i]);
 		check(name, is(others[i], sundr_refusal_text(REFUSALS)));
 	}
 	return finish();

@@ -160,7 +160,7 @@ int main(void)
 	prepare_cases();
 	for (i = 0; i < CASES; i++)
 		cases[i].make();
-	ordinary = written;
+	memcpy(&ordinary, &written, sizeof ordinary);
 	prepare_cases();
 
 	make_stack();

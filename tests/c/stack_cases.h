@@ -1,17 +1,16 @@
 /*
  * Every call of include/sundr.h, accepted and refused, for stacks to be measured by: stack.c makes them on a small one,
  * ../bench/depths.c on a painted one. A refusal is by the test that is tried last, or after the last hash;
- * sundr_lookup_many() and sundr_block_choose() have one before their first hash too, and sundr_compare() has none. A case
- * may be made any number of times, and its answer is the same.
+ * sundr_lookup_many() and sundr_block_choose() have one before their first hash too, sundr_check_list() and sundr_create()
+ * one of each number, and sundr_compare() has none. A case may be made any number of times, and its answer is the same.
  */
 #ifndef STACK_CASES_H
 #define STACK_CASES_H
 
+#include "stack_blocks.h"
 #include "stack_lent.h"
+#include "stack_turn.h"
 #include "sundr.h"
-
-/* What the last case answered. */
-static uint64_t answer;
 
 /* The answer of this number, 0 if accepted, and these two results or positions. */
 #define ANSWER(number, first, second) ((uint64_t)(second) << 32 | (uint64_t)(first) << 8 | (number))
@@ -60,18 +59,6 @@ static void compare_next(void)
 static void compare_apart(void)
 {
 	answer = sundr_compare(listed_counts, apart_counts);
-}
-
-static void check_list(void)
-{
-	answer = sundr_check(16, 8, list + 98 * 8, 98, list, sizeof list, marks, sizeof marks,
-		handle, sizeof handle, written.next, sizeof written.next);
-}
-
-static void check_forked(void)
-{
-	answer = sundr_check(16, 8, list + 98 * 8, 98, forked, sizeof forked, marks, sizeof marks,
-		handle, sizeof handle, written.next, sizeof written.next);
 }
 
 static void make_server(void)
@@ -158,121 +145,6 @@ static void look_up_65(void)
 		written.entries, 65 * 33);
 }
 
-static void check_block(void)
-{
-	answer = sundr_block_check(file_handle, sizeof file_handle, inode, sizeof inode, 0, block, sizeof block);
-}
-
-static void check_other_block(void)
-{
-	answer = sundr_block_check(file_handle, sizeof file_handle, inode, sizeof inode, 0, message, sizeof block);
-}
-
-static void check_direct_block(void)
-{
-	answer = sundr_large_block_check(large_handle, sizeof large_handle, large_inode, sizeof large_inode, 0,
-		NULL, 0, block, sizeof block);
-}
-
-static void check_indirect_block(void)
-{
-	answer = sundr_large_block_check(large_handle, sizeof large_handle, large_inode, sizeof large_inode, 16,
-		indirect, sizeof indirect, block, sizeof block);
-}
-
-static void check_other_indirect_block(void)
-{
-	answer = sundr_large_block_check(large_handle, sizeof large_handle, large_inode, sizeof large_inode, 16,
-		indirect, sizeof indirect, message, sizeof block);
-}
-
-/* The inode has the block's hash, after its first five bytes. */
-static void choose_reply(void)
-{
-	answer = sundr_block_choose(inode + 5, 32, block, sizeof block, message, sizeof block);
-}
-
-static void choose_cached(void)
-{
-	answer = sundr_block_choose(inode + 5, 32, message, sizeof block, block, sizeof block);
-}
-
-static void choose_neither(void)
-{
-	answer = sundr_block_choose(handle, sizeof handle, message, sizeof block, block, sizeof block);
-}
-
-static void choose_too_long(void)
-{
-	answer = sundr_block_choose(inode + 5, 32, block, sizeof block, message, sizeof message);
-}
-
-static void make_store(void)
-{
-	answer = sundr_store_make(written.made_store, sizeof written.made_store);
-}
-
-static void make_store_short(void)
-{
-	answer = sundr_store_make(written.made_store, sizeof written.made_store - 1);
-}
-
-/* User 15's count in the last place, so that a case finds it as every other time. */
-static void count_in_last(uint8_t count)
-{
-	written.store[SUNDR_PLACE_LEN * 63 + 2 + 2 * 15 + 1] = count;
-}
-
-static void store_again(void)
-{
-	count_in_last(2);
-	answer = sundr_store(written.store, sizeof written.store, 15, message, SUNDR_BLOCK_MAX_LEN - 63);
-}
-
-static void store_anew(void)
-{
-	count_in_last(0);
-	answer = sundr_store(written.store, sizeof written.store, 15, message, SUNDR_BLOCK_MAX_LEN - 63);
-}
-
-static void store_in_full(void)
-{
-	answer = sundr_store(store, sizeof store, 15, message + 1, SUNDR_BLOCK_MAX_LEN);
-}
-
-static void retrieve_last(void)
-{
-	answer = sundr_retrieve(store, sizeof store, stored_hash, sizeof stored_hash,
-		written.retrieved, sizeof written.retrieved);
-}
-
-static void retrieve_without_room(void)
-{
-	answer = sundr_retrieve(store, sizeof store, stored_hash, sizeof stored_hash,
-		written.retrieved, SUNDR_BLOCK_MAX_LEN - 64);
-}
-
-static void retrieve_other(void)
-{
-	answer = sundr_retrieve(store, sizeof store, handle, sizeof handle, written.retrieved, sizeof written.retrieved);
-}
-
-static void unreference_last(void)
-{
-	count_in_last(2);
-	answer = sundr_unreference(written.store, sizeof written.store, 15, stored_hash, sizeof stored_hash);
-}
-
-static void unreference_uncounted(void)
-{
-	answer = sundr_unreference(store, sizeof store, 14, stored_hash, sizeof stored_hash);
-}
-
-static void unreference_other(void)
-{
-	answer = sundr_unreference(store, sizeof store, 15, handle, sizeof handle);
-}
-
 /* The cases, those of a call together: the call, on what, what makes it, and the answer that is due. */
 static const struct {
 	const char *call, *on;
@@ -288,8 +160,25 @@ static const struct {
 	{"sundr_compare", "the same counts", compare_same, ANSWER(SUNDR_ACCEPTED, SUNDR_EQUAL, 0)},
 	{"sundr_compare", "the last user's next", compare_next, ANSWER(SUNDR_ACCEPTED, SUNDR_BEFORE, 0)},
 	{"sundr_compare", "the last two users' forked", compare_apart, ANSWER(SUNDR_ACCEPTED, SUNDR_APART, 0)},
-	{"sundr_check", "16 users", check_list, ANSWER(SUNDR_ACCEPTED, 0, 0)},
-	{"sundr_check", "16 users, the last two forked", check_forked, ANSWER(SUNDR_UNORDERED, 14, 15)},
+	{"sundr_check_list", "16 users", check_list, ANSWER(SUNDR_ACCEPTED, 0, 0)},
+	{"sundr_check_list", "17 users", check_17_users, ANSWER(SUNDR_USERS, 0, 0)},
+	{"sundr_check_list", "16 users, 15 counts", check_15_counts, ANSWER(SUNDR_LENGTH, 0, 0)},
+	{"sundr_check_list", "16 users, a memory of another's", check_with_memory_of_another,
+		ANSWER(SUNDR_MALFORMED, SUNDR_MEMORY_POSITION, 0)},
+	{"sundr_check_list", "16 users, the last record malformed", check_malformed, ANSWER(SUNDR_MALFORMED, 15, 0)},
+	{"sundr_check_list", "16 users, the last record unsigned", check_unmarked, ANSWER(SUNDR_UNSIGNED, 15, 0)},
+	{"sundr_check_list", "16 users, rolled back", check_rolled_back, ANSWER(SUNDR_NOT_CURRENT, 0, 0)},
+	{"sundr_check_list", "16 users, at the last count", check_at_last, ANSWER(SUNDR_LAST_VERSION, 0, 0)},
+	{"sundr_check_list", "16 users, the last two forked", check_forked, ANSWER(SUNDR_UNORDERED, 14, 15)},
+	{"sundr_check_list", "16 users, the last ahead of the next", check_ahead, ANSWER(SUNDR_UNORDERED, 15, 16)},
+	{"sundr_create", "16 users", create_next, ANSWER(SUNDR_ACCEPTED, 0, 0)},
+	{"sundr_create", "16 users, user 16", create_for_no_user, ANSWER(SUNDR_USERS, 0, 0)},
+	{"sundr_create", "16 users, a byte short", create_without_room, ANSWER(SUNDR_LENGTH, 0, 0)},
+	{"sundr_create", "16 users, a memory of another's", create_with_memory_of_another,
+		ANSWER(SUNDR_MALFORMED, SUNDR_MEMORY_POSITION, 0)},
+	{"sundr_create", "15 users, a count of user 15", create_beyond, ANSWER(SUNDR_MALFORMED, 0, 0)},
+	{"sundr_create", "16 users, at the last count", create_at_last, ANSWER(SUNDR_LAST_VERSION, 0, 0)},
+	{"sundr_create", "16 users, the counts once more", create_again, ANSWER(SUNDR_NOT_NEXT, 0, 0)},
 	{"sundr_server_make_at", "16 users", make_server, ANSWER(SUNDR_ACCEPTED, 0, 0)},
 	{"sundr_server_make_at", "17 users", make_server_17, ANSWER(SUNDR_USERS, 0, 0)},
 	{"sundr_server_list_at", "16 users", list_all, ANSWER(SUNDR_ACCEPTED, 16, 0)},

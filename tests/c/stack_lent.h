@@ -16,6 +16,12 @@ static uint8_t message[SUNDR_SHA256_MAX_MESSAGE + 1];
 /* A list of sixteen records, and the same where user 15's does not count user 14's operation: the two stand apart. */
 static uint8_t list[16 * 98], forked[16 * 98], marks[16], handle[32];
 
+/*
+ * The list with another first byte of user 15's record; with that record at the last own count; and where it counts an
+ * operation of user 14 that there is not. Marks of which the last is not 1.
+ */
+static uint8_t malformed[16 * 98], last[16 * 98], ahead[16 * 98], unmarked[16];
+
 /* A server that holds the list; user 15's next record, and one that does not count user 14's operation. */
 static struct sundr_server server;
 static uint8_t record[98], apart[98];
@@ -47,11 +53,15 @@ static uint8_t store[SUNDR_STORE_LEN], stored_hash[32];
 
 /* All that the calls write. The record is committed to a server of its own, and blocks are stored in a store of their own. */
 static struct written {
+	uint32_t counts[16];
 	uint8_t hash[5][32], next[98], made[1569], listed[16 * 98], blocks[273 * 642], found[32];
 	uint8_t entries[65 * 33], no_entries[64 * 33];
 	struct sundr_server server;
 	uint8_t made_store[SUNDR_STORE_LEN], store[SUNDR_STORE_LEN], retrieved[SUNDR_BLOCK_MAX_LEN];
 } written;
+
+/* What the last case answered. */
+static uint64_t answer;
 
 static void fill_lists(void)
 {
@@ -68,6 +78,13 @@ static void fill_lists(void)
 	memset(marks, 1, sizeof marks);
 	memcpy(forked, list, sizeof forked);
 	put(forked + 98 * 15 + 34 + 4 * 14, 0);
+	memcpy(malformed, list, sizeof malformed);
+	malformed[98 * 15] = 2;
+	memcpy(last, list, sizeof last);
+	put(last + 98 * 15 + 34 + 4 * 15, 4294967295);
+	memcpy(ahead, list, sizeof ahead);
+	put(ahead + 98 * 15 + 34 + 4 * 14, 2);
+	memset(unmarked, 1, sizeof unmarked - 1);
 	server.users = 16;
 	memcpy(server.records, list, sizeof list);
 	memcpy(record, list + 98 * 15, sizeof record);

@@ -1,4 +1,5 @@
-//! The desk program, as it is built, against the second implementation.
+//! The desk program, as it is built, against the second implementation, and against what it printed by the one call that
+//! did both before 02's request h.
 
 use std::fs::File;
 use std::io::{Read, Write};
@@ -6,14 +7,20 @@ use std::os::fd::OwnedFd;
 use std::os::unix::net::UnixDatagram;
 use std::process::{Command, Stdio};
 
-use crate::lists::{pick, Request};
+use crate::joint::joint;
+use crate::lists::{pick, some_handle, Request};
 use crate::random::Random;
-use crate::reference::input::output;
+use crate::reference::input::{output, output_by};
 use crate::reference::version::{Version, RECORD, USERS};
 use crate::runner::{equal, hex, Outcome, Runner};
 
 /// Where `rt check` and `rt ci` leave it.
 const PROGRAM: &str = concat!(env!("CARGO_MANIFEST_DIR"), "/../target/bin/desk");
+
+/// What it printed by the call that did both. i-handle and answer have their lengths in every input.
+fn output_before(input: &[u8]) -> String {
+    output_by(input, |users, user, memory, list, marks, handle| joint(users, user, memory, list, marks, handle, RECORD))
+}
 
 /// What the program prints on this standard input, `feed` being run while it reads.
 fn printed(stdin: Stdio, feed: impl FnOnce(Option<std::process::ChildStdin>)) -> Result<String, String> {
@@ -89,6 +96,7 @@ fn cases() -> Outcome {
         });
         let (name, input, due) = parsed.ok_or(format!("not a case: {line}"))?;
         equal(&format!("{name}: the second implementation"), output(&input), due.clone())?;
+        equal(&format!("{name}: the call that did both"), output_before(&input), due.clone())?;
         equal(&format!("{name}: the output"), on(&input)?, due.clone())?;
         equal(&format!("{name}: the output, a byte at a time"), on_parts(&input, || 1)?, due)?;
         number += 1;
@@ -97,9 +105,8 @@ fn cases() -> Outcome {
 }
 
 /// The input that holds these arguments, each cut or filled to a length that the form has.
-fn written(mut request: Request) -> Vec<u8> {
-    request.handle.resize(32, 0);
-    let mut input = [vec![request.users, request.user], request.handle].concat();
+fn written(mut request: Request, handle: [u8; 32]) -> Vec<u8> {
+    let mut input = [vec![request.users, request.user], handle.to_vec()].concat();
     if request.memory.is_empty() {
         input.push(0);
     } else {
@@ -116,7 +123,7 @@ fn written(mut request: Request) -> Vec<u8> {
 
 /// An input for lists of every kind, sometimes of another form.
 fn any_input(random: &mut Random) -> Vec<u8> {
-    let mut input = written(Request::any(random));
+    let mut input = written(Request::any(random), some_handle(random));
     match random.below(20) {
         0 => input.truncate(random.below(input.len() + 1)),
         1 => drop(input.pop()),
@@ -175,7 +182,9 @@ fn random_inputs(times: usize, seed: u64, parts: Option<usize>) -> Outcome {
             None => on(&input)?,
             Some(most) => on_parts(&input, || 1 + sizes.below(most))?,
         };
-        equal("the output", got, due).map_err(|e| format!("{e}; input of {} bytes {}", input.len(), hex(&input)))?;
+        equal("the output", &got, &due)
+            .and_then(|()| equal("the output, by the call that did both,", &got, &output_before(&input)))
+            .map_err(|e| format!("{e}; input of {} bytes {}", input.len(), hex(&input)))?;
     }
     seen.at_least(times / 200)
 }

@@ -7,7 +7,7 @@ extern "C" {
 
     pub fn sundr_compare(x: *const u32, y: *const u32) -> u64;
 
-    pub fn sundr_check(
+    pub fn sundr_check_list(
         users: u8,
         user: u8,
         memory: *const u8,
@@ -16,6 +16,16 @@ extern "C" {
         list_len: usize,
         marks: *const u8,
         marks_len: usize,
+        counts: *mut u32,
+        counts_len: usize,
+    ) -> u64;
+    pub fn sundr_create(
+        users: u8,
+        user: u8,
+        memory: *const u8,
+        memory_len: usize,
+        counts: *const u32,
+        counts_len: usize,
         handle: *const u8,
         handle_len: usize,
         out: *mut u8,

@@ -108,6 +108,11 @@ impl Guarded {
         &self.now()[self.start..self.start + self.len]
     }
 
+    /// The lent counts, as they are now.
+    pub fn content_counts(&self) -> Vec<u32> {
+        self.content().chunks(4).map(|count| u32::from_ne_bytes(count.try_into().unwrap())).collect()
+    }
+
     pub fn len(&self) -> usize {
         self.len
     }

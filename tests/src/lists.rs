@@ -12,8 +12,7 @@ pub struct Request {
     pub memory: Vec<u8>,
     pub list: Vec<u8>,
     pub marks: Vec<u8>,
-    pub handle: Vec<u8>,
-    pub out_len: usize,
+    pub counts_len: usize,
 }
 
 /// A check's arguments before they are bytes.
@@ -27,6 +26,16 @@ pub struct Draft {
 /// One of the items.
 pub fn pick<T: Copy>(random: &mut Random, items: &[T]) -> T {
     items[random.below(items.len())]
+}
+
+/// A user below `users` that is none of these.
+pub fn other_than(these: &[usize], users: usize, random: &mut Random) -> usize {
+    loop {
+        let user = random.below(users);
+        if !these.contains(&user) {
+            return user;
+        }
+    }
 }
 
 pub fn some_handle(random: &mut Random) -> [u8; 32] {
@@ -210,21 +219,20 @@ impl Draft {
         }
     }
 
-    pub fn request(&self, random: &mut Random) -> Request {
+    pub fn request(&self) -> Request {
         Request {
             users: self.users,
             user: self.user,
             memory: self.memory.map_or(Vec::new(), |memory| memory.write().to_vec()),
             list: self.list.iter().flat_map(Version::write).collect(),
             marks: vec![1; self.list.len()],
-            handle: some_handle(random).to_vec(),
-            out_len: RECORD,
+            counts_len: USERS,
         }
     }
 }
 
 /// A length that is not right: by one byte or one item, or far off.
-fn other_length(bytes: &mut Vec<u8>, item: usize, random: &mut Random) {
+pub fn other_length(bytes: &mut Vec<u8>, item: usize, random: &mut Random) {
     let len = bytes.len();
     let to = match random.below(6) {
         0 | 1 => len + 1,
@@ -236,7 +244,7 @@ fn other_length(bytes: &mut Vec<u8>, item: usize, random: &mut Random) {
 }
 
 /// Any byte becomes any other.
-fn any_byte(bytes: &mut [u8], random: &mut Random) {
+pub fn any_byte(bytes: &mut [u8], random: &mut Random) {
     if !bytes.is_empty() {
         let at = random.below(bytes.len());
         bytes[at] = random.next() as u8;
@@ -246,7 +254,7 @@ fn any_byte(bytes: &mut [u8], random: &mut Random) {
 impl Request {
     /// One argument out of its range, or of a wrong length, or bytes that a line has damaged.
     pub fn damage(&mut self, random: &mut Random) {
-        match random.below(18) {
+        match random.below(17) {
             0 => self.users = pick(random, &[0, 17, 18, 32, 128, 255]),
             1 => self.user = pick(random, &[self.users, self.users.saturating_add(1), 16, 255]),
             2 => self.users = 1 + random.below(USERS) as u8,
@@ -254,10 +262,9 @@ impl Request {
             4 => other_length(&mut self.memory, RECORD, random),
             5 => other_length(&mut self.list, RECORD, random),
             6 => other_length(&mut self.marks, 16, random),
-            7 => other_length(&mut self.handle, 32, random),
-            8 => self.out_len = pick(random, &[0, 1, 34, 97, 99, 100, 196, 1_568]),
+            7 => self.counts_len = pick(random, &[0, 1, 4, 15, 15, 17, 17, 32, 64, 98, 272]),
             // One record more than there are users.
-            9 => {
+            8 => {
                 let records = usize::from(self.users) + 1;
                 while self.list.len() < RECORD * records {
                     let version = Version::new(self.marks.len() as u8, [0; 32], [1; USERS]);
@@ -265,12 +272,12 @@ impl Request {
                     self.marks.push(1);
                 }
             }
-            10 => any_byte(&mut self.memory, random),
-            11 => any_byte(&mut self.list, random),
-            12 => any_byte(&mut self.marks, random),
-            13 => self.memory = vec![0; RECORD],
+            9 => any_byte(&mut self.memory, random),
+            10 => any_byte(&mut self.list, random),
+            11 => any_byte(&mut self.marks, random),
+            12 => self.memory = vec![0; RECORD],
             // A bit of the client's own structure, in both places.
-            14 => {
+            13 => {
                 let at = self.list.chunks(RECORD).position(|record| record == self.memory);
                 if let Some(i) = at {
                     let byte = random.below(RECORD);
@@ -293,7 +300,7 @@ impl Request {
         for _ in 0..pick(random, &[0, 1, 1, 1, 1, 2, 2, 3]) {
             draft.lie(random);
         }
-        let mut request = draft.request(random);
+        let mut request = draft.request();
         for _ in 0..pick(random, &[0, 0, 0, 0, 0, 0, 1, 1, 1, 2]) {
             request.damage(random);
         }

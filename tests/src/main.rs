@@ -9,6 +9,8 @@ mod bounds;
 mod check;
 mod choose;
 mod compare;
+mod create;
+mod create_edges;
 mod desk;
 mod faults;
 mod ffi;
@@ -21,10 +23,13 @@ mod histories;
 mod indirect;
 mod inode;
 mod itable;
+mod joint;
 mod kinds;
 mod large;
+mod lies;
 mod lists;
 mod lookup;
+mod makings;
 mod many;
 mod mixed;
 mod parts;
@@ -48,10 +53,14 @@ use std::sync::atomic::{AtomicUsize, Ordering};
 use std::thread;
 
 /// The checks of each piece.
-const PIECES: [fn(&mut Runner); 23] = [
+const PIECES: [fn(&mut Runner); 27] = [
     sha256::checks,
     compare::checks,
     check::checks,
+    lies::checks,
+    create::checks,
+    create_edges::checks,
+    joint::checks,
     desk::checks,
     server::checks,
     runs::checks,

@@ -74,6 +74,16 @@ pub fn equal<T: PartialEq + std::fmt::Debug>(what: &str, got: T, due: T) -> Outc
     }
 }
 
+/// An error unless each of these was seen so often.
+pub fn enough(seen: impl IntoIterator<Item = (String, usize)>, times: usize) -> Outcome {
+    let rare: Vec<_> = seen.into_iter().filter(|(_, seen)| *seen < times).collect();
+    if rare.is_empty() {
+        Ok(())
+    } else {
+        Err(format!("too few: {rare:?}"))
+    }
+}
+
 /// Bytes as hexadecimal digits; of over 300, the first and the number. (A run again tests the same.)
 pub fn hex(bytes: &[u8]) -> String {
     let shown: String = bytes.iter().take(300).map(|b| format!("{b:02x}")).collect();

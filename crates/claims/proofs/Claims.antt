@@ -5,12 +5,15 @@ use Rattle.sha256.proofs.WordsTaken.{words-taken, queues-held}
 use Rattle.protocol.proofs.Standing.{standing-means, flips, orders-read, standings-occur}
 use Rattle.protocol.proofs.CheckMeans.{check-means}
 use Rattle.protocol.proofs.NewMeans.{new-means}
+use Rattle.protocol.proofs.CreateMeans.{create-means}
+use Rattle.protocol.proofs.MadeMeans.{made-means}
+use Rattle.protocol.proofs.CreateAfterCheck.{create-after-check}
 use Rattle.protocol.proofs.CommitMeans.{commit-means}
 use Rattle.protocol.proofs.NoJoin.{no-join}
 use Rattle.protocol.proofs.MarkedSuffices.{marked-suffices}
 use Rattle.protocol.proofs.ForkedRun.{forked-run}
 use Rattle.protocol.proofs.HonestTurns.{honest-turns}
-use Rattle.protocol.proofs.TurnsRun.{turns-run}
+use Rattle.protocol.proofs.TurnsRun.{turns-run, turns-linked}
 use Rattle.protocol.proofs.TwoUsers.{two-users}
 use Rattle.protocol.proofs.SteadyTurns.{steady-turns}
 use Rattle.protocol.proofs.LastTurn.{last-turn}
@@ -52,6 +55,7 @@ use Rattle.store.proofs.ReferencesCounted.{references-counted}
 use Rattle.store.proofs.MadeStaysSound.{made-stays-sound}
 use Rattle.store.proofs.RoundTrip.{round-trip}
 use Rattle.input.proofs.UsersRefused.{users-refused}
+use Rattle.input.proofs.CheckTold.{check-told}
 use Rattle.report.proofs.UsersPrinted.{users-printed}
 use Rattle.report.proofs.ExamplePrinted.{example-printed}
 use Rattle.claims.specs.Claims.{Claims}
@@ -66,6 +70,7 @@ claims =
       forked-run = forked-run;
       honest-turns = honest-turns;
       turns-run = turns-run;
+      turns-linked = turns-linked;
       two-users = two-users;
       steady-turns = steady-turns;
       last-turn = last-turn;
@@ -75,6 +80,9 @@ claims =
       standings-occur = standings-occur;
       check-means = check-means;
       new-means = new-means;
+      create-means = create-means;
+      made-means = made-means;
+      create-after-check = create-after-check;
       commit-means = commit-means;
       commits-counted = commits-counted;
       listings-ascend = listings-ascend;
@@ -124,6 +132,7 @@ claims =
       answers-read = answers-read;
       server-in-bytes = server-in-bytes;
       users-refused = users-refused;
+      check-told = check-told;
       users-printed = users-printed;
       example-printed = example-printed;
       examples-hold = examples-hold;

@@ -6,11 +6,13 @@ use Rattle.sha256.specs.Schedule.{Recurrence}
 use Rattle.sha256.specs.WordsTaken.{WordsTaken, QueuesHeld}
 use Rattle.protocol.specs.Standing.{StandingMeans, Flipped, OrdersRead, StandingsOccur}
 use Rattle.protocol.specs.Meaning.{CheckMeans, NewMeans}
+use Rattle.protocol.specs.CreateMeaning.{CreateMeans, MadeMeans}
+use Rattle.protocol.specs.CreateAfterCheck.{CreateAfterCheck}
 use Rattle.protocol.specs.CommitMeaning.{CommitMeans}
 use Rattle.protocol.specs.NoJoin.{NoJoin, MarkedSuffices}
 use Rattle.protocol.specs.ForkedRun.{ForkedRun}
 use Rattle.protocol.specs.Turns.{HonestTurns}
-use Rattle.protocol.specs.TurnsRun.{TurnsRun}
+use Rattle.protocol.specs.TurnsRun.{TurnsRun, TurnsLinked}
 use Rattle.protocol.specs.TwoUsers.{TwoUsers}
 use Rattle.protocol.specs.Steady.{SteadyTurns}
 use Rattle.protocol.specs.LastTurn.{LastTurn}
@@ -34,6 +36,7 @@ use Rattle.store.specs.Retrieved.{RetrievedHash, StoredIsRetrieved}
 use Rattle.store.specs.Runs.{ReferencesCounted, MadeStaysSound}
 use Rattle.store.specs.RoundTrip.{RoundTrip}
 use Rattle.input.specs.UsersRefused.{UsersRefused}
+use Rattle.input.specs.CheckTold.{CheckTold}
 use Rattle.report.specs.UsersPrinted.{UsersPrinted}
 use Rattle.report.specs.ExamplePrinted.{ExamplePrinted}
 use Rattle.sundr.specs.Read.{AnswersRead}
@@ -42,17 +45,20 @@ use Rattle.sundr.specs.Server.{ServerInBytes}
 use Rattle.claims.specs.Examples.{ExamplesHold, LargeExamples}
 
 pub record Claims : Type 1 where
-  -- No fork is joined: in every run in which no honest user's record is forged, where two honest users signed structures that each lack the
-  -- other's work, no call accepts a list that shows both, or later ones.
+  -- No fork is joined: in every run of checks and making steps in which no honest user's record is forged, and each honest structure is made of
+  -- counts that an earlier check gave at its client, where two honest users signed structures that each lack the other's work, no check accepts
+  -- a list that shows both, or later ones.
   pub no-join : NoJoin
   -- The order's own premise, of every marked record of an honest user in any list, is enough for it.
   pub marked-suffices : MarkedSuffices
-  -- There is a run that meets the premise of this and forks, and the list that would join it is refused.
+  -- There is a run that meets the premise of this and forks, two checks being open at once, and the list that would join it is refused.
   pub forked-run : ForkedRun
   -- Honest users who take turns through an honest server are refused exactly at the last count.
   pub honest-turns : HonestTurns
-  -- What these turns leave in the clients' memories is what the run of their calls leaves there.
+  -- What these turns leave in the clients' memories is what the run of their checks and making steps leaves there.
   pub turns-run : TurnsRun
+  -- And that run meets the premise that counts are of an earlier check at the same client.
+  pub turns-linked : TurnsLinked
   -- There are such turns, and all are accepted.
   pub two-users : TwoUsers
   -- After such turns each client remembers what the server holds of it, and all that is held is ordered.
@@ -69,8 +75,15 @@ pub record Claims : Type 1 where
   pub standings-occur : StandingsOccur
   -- A client's check accepts exactly where each condition holds, and refuses exactly for the first that does not.
   pub check-means : CheckMeans
-  -- The new structure: its owner, its handle, and each of its counts.
+  -- The new counts, each of the sixteen.
   pub new-means : NewMeans
+  -- A making step accepts exactly where each condition holds, and refuses exactly for the first that does not.
+  pub create-means : CreateMeans
+  -- What it makes: its owner, its handle, and each of its counts.
+  pub made-means : MadeMeans
+  -- What a check gave, the making step takes, and of a refused check's zeros it makes nothing; whatever it takes, it makes a well formed structure
+  -- of its user.
+  pub create-after-check : CreateAfterCheck
   -- A server's commit accepts exactly where each condition holds, and replaces one record.
   pub commit-means : CommitMeans
   -- The sum of all held own counts is the number of commits accepted since the server's list was made.
@@ -170,6 +183,8 @@ pub record Claims : Type 1 where
   pub users-refused : UsersRefused
   -- And it is printed so.
   pub users-printed : UsersPrinted
+  -- What is judged of an input of the stated form is the check's answer, and nothing else.
+  pub check-told : CheckTold
   -- The paper's example of its output.
   pub example-printed : ExamplePrinted
   -- The twelve marked examples.

@@ -5,6 +5,7 @@ use mathlib.Core.List.{List, [], _∷_}
 use mathlib.Core.Path.{_≡_}
 use native.Mathlib.Omega.{arith}
 use borrow.Author.Tests.{lt-ltb, le-ltb}
+use Rattle.layout.specs.Bytes.{values}
 use Rattle.search.specs.Pairs.{everyPair, firstLow, firstHigh}
 use Rattle.search.proofs.Bool.{not-both}
 use Rattle.search.proofs.Pairs.{pairs-intro, first-pair-at}
@@ -14,7 +15,7 @@ use Rattle.protocol.specs.Version.{countsBefore, countsStrictlyBefore}
 use Rattle.protocol.specs.List.{records, recordAt}
 use Rattle.protocol.specs.Check.{ordered}
 use Rattle.version.specs.Version.{fields, countIn}
-use Rattle.version.proofs.Laws.{before-fields, strictly-fields}
+use Rattle.version.proofs.Laws.{before-fields, strictly-values}
 
 module _ (R : ℕ → ℕ → Bool) (n : ℕ) where
   abbrev due : Answer Unit
@@ -33,7 +34,7 @@ module _ (R : ℕ → ℕ → Bool) (n : ℕ) where
   unfolding inOrder
   together h = rw (pairs-intro R n (λ i j a b. h i (omega arith) j a b))
 
-module _ (list new x : List ℕ) (i : ℕ) (r : Bool) (ex : x ≡ fields (recordAt list i) .counts) where
+module _ (list : List ℕ) (new : ℕ → ℕ) (x : List ℕ) (i : ℕ) (r : Bool) (ex : x ≡ fields (recordAt list i) .counts) where
   pub compared :
       (j : ℕ) (y : List ℕ) → j < records list → y ≡ fields (recordAt list j) .counts →
       r ≡ (countsBefore (countIn x) (countIn y) || countsBefore (countIn y) (countIn x)) → ordered list new i j ≡ r
@@ -49,6 +50,6 @@ module _ (list new x : List ℕ) (i : ℕ) (r : Bool) (ex : x ≡ fields (record
       )
 
   pub compared-new :
-      (j : ℕ) (y : List ℕ) → records list ≤ j → y ≡ fields new .counts → r ≡ countsStrictlyBefore (countIn x) (countIn y) → ordered list new i j ≡ r
+      (j : ℕ) (y : List ℕ) → records list ≤ j → y ≡ values new 0 16 → r ≡ countsStrictlyBefore (countIn x) (countIn y) → ordered list new i j ≡ r
   unfolding ordered
-  compared-new j y h ey e = rw (le-ltb j (records list) h, e, ex, ey, strictly-fields (recordAt list i) new)
+  compared-new j y h ey e = rw (le-ltb j (records list) h, e, ex, ey, strictly-values (recordAt list i) new)

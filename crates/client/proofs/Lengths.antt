@@ -7,12 +7,12 @@ use Rattle.protocol.specs.History.{Call}
 use Rattle.protocol.specs.Meaning.{Users, Sizes}
 use Rattle.protocol.proofs.CheckMeans.{users-stage, sizes-stage}
 
-module _ (N u : ℕ) (mem list marks handle : List ℕ) (room : ℕ) where
+module _ (N u : ℕ) (mem list marks : List ℕ) where
   abbrev pub call : Call
-  call = record { user = u; list = list; marks = marks; handle = handle; room = room }
+  call = record { user = u; list = list; marks = marks }
 
   pub sizes-mean :
-      Stage (sizeSteps N u mem list marks handle room) (Users N u × Sizes N mem call)
+      Stage (sizeSteps N u mem list marks) (Users N u × Sizes N mem call)
       (Either (Users N u) (Unless (Users N u) 1 0 0) (Unless (Sizes N mem call) 2 0 0))
   unfolding sizeSteps
-  sizes-mean = and-then _ _ (users-stage N mem call) (λ p. sizes-stage N mem call)
+  sizes-mean = and-then _ _ (users-stage N u) (λ p. sizes-stage N mem call)

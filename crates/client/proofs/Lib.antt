@@ -1,6 +1,6 @@
 pub mod Apart
 pub mod Finish
-pub mod Judged
+pub mod ThirdStage
 pub mod Lengths
 pub mod Lent
 pub mod Placed

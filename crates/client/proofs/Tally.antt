@@ -16,11 +16,10 @@ use Rattle.search.proofs.Search.{find-at}
 use Rattle.layout.specs.Bytes.{values}
 use Rattle.layout.proofs.Bytes.{four-past}
 use Rattle.layout.proofs.Parts.{part-past}
-use Rattle.layout.proofs.Values.{length-values, getD-values}
+use Rattle.layout.proofs.Values.{length-values, value-at}
 use Rattle.protocol.specs.Version.{owner, count}
 use Rattle.protocol.specs.List.{records, recordAt, entry}
-use Rattle.protocol.specs.Check.{nextCount}
-use Rattle.client.specs.Internal.Stages.{nextCounts}
+use Rattle.protocol.specs.Check.{nextCount, nextCounts}
 
 module _ (list : List ℕ) where
   abbrev owns : ℕ → ℕ → Bool
@@ -60,13 +59,10 @@ module _ (list : List ℕ) where
   unfolding nextCounts entry
   all-passed u mem cs x l lu ex below =
       ext-getD 0 (set cs u x) _ (length-set cs u x ∙ (l ∙ sym (length-values f 0 16)))
-      (λ v h. let k : v < 16 = omega (arith, length-set cs u x) in here v k ∙ sym (at v k))
+      (λ v h. let k : v < 16 = omega (arith, length-set cs u x) in here v k ∙ sym (value-at f 16 v k))
     where
       f : ℕ → ℕ
       f = nextCount u mem list
-
-      at : (v : ℕ) → v < 16 → getD (values f 0 16) v 0 ≡ f v
-      at v h = let s : 0 + v ≡ v = omega arith in getD-values f 0 16 v h ∙ ap f s
 
       here : (v : ℕ) → v < 16 → getD (set cs u x) v 0 ≡ f v
       here v h =

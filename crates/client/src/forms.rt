@@ -9,24 +9,11 @@ ghost use Rattle.refusal.specs.Order.{tried};
 ghost use Rattle.refusal.specs.Refusal.{said};
 ghost use Rattle.protocol.specs.Version.{size};
 ghost use Rattle.protocol.specs.List.{records as recordsOf, wellPlaced};
-ghost use Rattle.protocol.specs.Check.{formSteps, remembers};
+ghost use Rattle.protocol.specs.Check.{formSteps};
 use crate::records;
 use refusal::Check;
 use refusal::Refusal;
 use version::SIZE;
-
-// Whether there is no current structure, or it is well formed and the user's own.
-fn remembered(users: u8, user: u8, memory: &[u8]) -> bool
-    ensures { λ r. ⌜ r ≡ remembers users user (now (memory .entry)) ⌝ }
-{
-    if memory.len() == 0 {
-        return true;
-    }
-    if !version::well_formed(users, memory) {
-        return false;
-    }
-    version::owner(memory) == user
-}
 
 // Whether record i is well formed and its owner above the one before.
 fn well_placed(users: u8, list: &[u8], i: usize) -> bool
@@ -75,7 +62,7 @@ pub(crate) fn forms(users: u8, user: u8, memory: &[u8], list: &[u8], marks: &[u8
     requires { ⌜ length (now marks) ≡ recordsOf (now list) ⌝ }
     ensures { λ r. ⌜ said r ≡ tried (formSteps users user (now (memory .entry)) (now (list .entry)) (now (marks .entry))) ⌝ }
 {
-    if !remembered(users, user, memory) {
+    if !version::remembered(users, user, memory) {
         return Check::Refused(Refusal::Malformed(16));
     }
     let count = marks.len();

@@ -1,19 +1,22 @@
 // The third stage: refusals 5, 6 and 7, by which the list goes on from the current structure.
 ghost use mathlib.Core.Path.{_≡_};
 ghost use mathlib.Core.Bool.{_||_};
-ghost use mathlib.Core.List.{List, [], _∷_};
+ghost use mathlib.Core.List.{[], _∷_};
 ghost use Prim.Native.Nat.{ℕ, _+_, _*_, _≤_, _<_};
 ghost use lib.Dec.{eqb};
-ghost use lib.ListN.{length, getD};
+ghost use lib.ListN.{length, getD, replicate};
+ghost use Rattle.layout.specs.Bytes.{values};
 ghost use Rattle.search.specs.Search.{find};
 ghost use Rattle.refusal.specs.Answer.{accepted};
-ghost use Rattle.refusal.specs.Order.{tried};
+ghost use Rattle.refusal.specs.Order.{inOrder, tried};
 ghost use Rattle.refusal.specs.Refusal.{said};
+ghost use Rattle.refusal.specs.Result.{Gives};
 ghost use Rattle.protocol.specs.Version.{size, owner, countsBefore, countsStrictlyBefore};
 ghost use Rattle.protocol.specs.List.{records as recordsOf, recordAt};
-ghost use Rattle.protocol.specs.Check.{orderSteps, pairStep, current as currentOf, next as nextOf};
+ghost use Rattle.protocol.specs.Check.{orderSteps, pairStep, nextCounts, current as currentOf};
 ghost use Rattle.version.specs.Version.{fields, countIn};
-ghost use Rattle.client.specs.Internal.Stages.{nextCounts, none};
+ghost use Rattle.client.specs.Internal.Stages.{none};
+use crate::Judged;
 use crate::records;
 use refusal::Check;
 use refusal::Refusal;
@@ -98,7 +101,7 @@ fn strictly_before(x: [u32; 16], y: [u32; 16]) -> bool
 fn pairs(list: &[u8], next: [u32; 16]) -> Check
     requires { ⌜ size * recordsOf (now list) ≡ length (now list) ⌝ }
     requires { ⌜ recordsOf (now list) ≤ 16 ⌝ }
-    ensures { λ r. ⌜ ((new : List ℕ) → next ≡ fields new .counts → said r ≡ tried (pairStep (now (list .entry)) new ∷ [])) ⌝ }
+    ensures { λ r. ⌜ ((new : ℕ → ℕ) → next ≡ values new 0 16 → said r ≡ tried (pairStep (now (list .entry)) new ∷ [])) ⌝ }
 {
     let n = list.len() / SIZE;
     let structures = read_list(list, n);
@@ -127,22 +130,16 @@ fn pairs(list: &[u8], next: [u32; 16]) -> Check
     Check::Passed
 }
 
-// The stage's answer, with the counts of the next structure where it passes.
-pub(crate) struct Judged {
-    pub answer: Check,
-    pub counts: [u32; 16],
-}
-
 pub(crate) fn order(user: u8, memory: &[u8], list: &[u8]) -> Judged
     requires { ⌜ user < 16 ⌝ }
     requires { ⌜ size * recordsOf (now list) ≡ length (now list) ⌝ }
     requires { ⌜ recordsOf (now list) ≤ 16 ⌝ }
     requires { ⌜ ((i : ℕ) → i < recordsOf (now list) → owner (recordAt (now list) i) < 16) ⌝ }
-    ensures answer { λ r. ⌜
-        ((handle : List ℕ) → length handle ≡ 32 → said (r .answer) ≡
-        tried (orderSteps user (now (memory .entry)) (now (list .entry)) (nextOf user (now (memory .entry)) (now (list .entry)) handle)))
+    ensures { λ r. ⌜
+        Gives
+        (inOrder (orderSteps user (now (memory .entry)) (now (list .entry))) (accepted (nextCounts user (now (memory .entry)) (now (list .entry)))))
+        (replicate 16 0) (r .counts) (r .answer)
         ⌝ }
-    ensures counts { λ r. ⌜ (said (r .answer) ≡ accepted tt → r .counts ≡ nextCounts user (now (memory .entry)) (now (list .entry))) ⌝ }
 {
     let listed = current(user, memory, list);
     let own = version::count(memory, user);
@@ -160,5 +157,11 @@ pub(crate) fn order(user: u8, memory: &[u8], list: &[u8]) -> Judged
     }
     let counts = crate::next::counts(user, memory, list);
     let answer = pairs(list, counts);
+    let Check::Passed = answer else {
+        return Judged {
+            answer,
+            counts: [0u32; 16],
+        };
+    };
     Judged { answer, counts }
 }

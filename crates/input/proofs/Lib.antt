@@ -2,3 +2,4 @@ pub mod Conditions
 pub mod Apart
 pub mod Told
 pub mod UsersRefused
+pub mod CheckTold

@@ -7,10 +7,13 @@ use native.Mathlib.Omega.{arith}
 use lib.ListN.{length, take, drop, replicate, length-drop}
 use lib.Seq.{take-all}
 use Rattle.protocol.specs.Check.{check}
+use Rattle.protocol.specs.Create.{create}
 use Rattle.refusal.specs.Answer.{Answer, accepted, andThen}
-use Rattle.refusal.specs.Refusal.{checked}
+use Rattle.refusal.specs.Refusal.{refusal, checked}
 use Rattle.refusal.specs.declared.Refusal.{Refusal}
+use Rattle.refusal.proofs.Match.{was-passed, was-refused}
 use Rattle.refusal.proofs.Numbered.{numbered}
+use Rattle.refusal.proofs.Stage.{Went}
 use Rattle.refusal.specs.declared.Check.{Check}
 use Rattle.refusal.specs.declared.Check.the-variants.{Passed, Refused as Stopped}
 use Rattle.refusal.specs.Result.{Gives}
@@ -20,7 +23,7 @@ use Rattle.input.specs.declared.Report.{Report}
 use Rattle.input.specs.declared.Outcome.the-variants.{OtherForm, Accepted, Refused}
 use Rattle.input.proofs.Apart.{memory-is}
 
--- The judgement of a check that answers c and leaves `new`.
+-- The judgement of a call that answers c and leaves `new`.
 abbrev due : List ℕ → Check → Judgement
 due new c = answer (andThen (checked new c) (λ s. accepted (sixteen s)))
 
@@ -36,14 +39,29 @@ told-refused N u new c r e =
     let q = numbered r .3 (List ℕ) in
     rw e (record { says = rw q; counts = rw q; users = refl; user = refl })
 
--- The check's answer is the one that the definition gives.
-pub told-answer :
-    (N u : ℕ) (mem list marks handle before after : List ℕ) (c : Check) (r : Report) →
-    Gives (check N u mem list marks handle 98) before after c → Reports (due after c) N u r →
-    Reports (answered N u mem list marks handle) N u r
-unfolding answered
-told-answer N u mem list marks handle before after c r g h =
-    subst (λ (d : Answer (List ℕ)). Reports (answer (andThen d (λ s. accepted (sixteen s)))) N u r) (g .answers) h
+-- The answer of the two calls is the one that the definition gives: that of a refused check, or of the making step after an accepted one.
+module _
+    (N u : ℕ)
+    (mem list marks handle before counts : List ℕ)
+    (c : Check)
+    (r : Report)
+    (g : Gives (check N u mem list marks) before counts c)
+  where
+    pub told-check : (new : List ℕ) → Went 1 c → Reports (due new c) N u r → Reports (answered N u mem list marks handle) N u r
+    unfolding answered
+    told-check new h p =
+        let w = was-refused c h in
+        let q = numbered (w .0) .3 (List ℕ) in
+        let d : check N u mem list marks ≡ refusal (w .0) = sym (g .answers) ∙ ap (checked counts) (w .1) in
+        rw (d, q) (rw (w .1, q) at p)
+
+    pub told-making :
+        (old after : List ℕ) (m : Check) → Went 0 c → Gives (create N u mem counts handle 98) old after m → Reports (due after m) N u r →
+        Reports (answered N u mem list marks handle) N u r
+    unfolding answered
+    told-making old after m h k p =
+        let d : check N u mem list marks ≡ accepted counts = sym (g .answers) ∙ ap (checked counts) (was-passed c h) in
+        rw d (subst (λ (d : Answer (List ℕ)). Reports (answer (andThen d (λ s. accepted (sixteen s)))) N u r) (k .answers) p)
 
 -- The parts that the code lends are the input's.
 module _

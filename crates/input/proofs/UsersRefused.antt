@@ -11,11 +11,11 @@ use Rattle.protocol.specs.Check.{sizeSteps, check}
 use Rattle.input.specs.Report.{answered, judgement}
 use Rattle.input.specs.UsersRefused.{UsersRefused}
 
-check-users : (N u : ℕ) (mem list marks handle : List ℕ) (room : ℕ) → (N ≡ 0) ⊎ (16 < N) → check N u mem list marks handle room ≡ refused 1 0 0
+check-users : (N u : ℕ) (mem list marks : List ℕ) → (N ≡ 0) ⊎ (16 < N) → check N u mem list marks ≡ refused 1 0 0
 unfolding check sizeSteps inOrder
-check-users N u mem list marks handle room h =
+check-users N u mem list marks h =
     ⊎-elim (λ z. rw (lt-leb 1 N (omega arith))) (λ l. rw (le-leb 1 N (omega arith), lt-leb N 16 l)) h
 
 pub users-refused : UsersRefused
 unfolding judgement answered
-users-refused input f h = rw (f, check-users _ _ _ _ _ _ _ h)
+users-refused input f h = rw (f, check-users _ _ _ _ _ h)

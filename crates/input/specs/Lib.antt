@@ -2,3 +2,4 @@
 pub mod Form
 pub mod Report
 pub mod UsersRefused
+pub mod CheckTold

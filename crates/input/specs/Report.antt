@@ -7,6 +7,7 @@ use lib.ListN.{replicate}
 use Rattle.layout.specs.Bytes.{values}
 use Rattle.protocol.specs.Version.{size, count}
 use Rattle.protocol.specs.Check.{check}
+use Rattle.protocol.specs.Create.{create}
 use Rattle.refusal.specs.Answer.{Answer, accepted, refused, andThen}
 use Rattle.refusal.specs.Refusal.{refusal}
 use Rattle.input.specs.Form.{users, user, memory, list, marks, handle, formed}
@@ -14,7 +15,7 @@ use Rattle.input.specs.declared.Report.{Report}
 use Rattle.input.specs.declared.Outcome.{Outcome}
 use Rattle.input.specs.declared.Outcome.the-variants.{OtherForm, Accepted, Refused}
 
--- The input is of another form, or the check of its parts answers.
+-- The input is of another form, or the check of its parts and the making step answer.
 pub data Judgement : Type 0 where
   otherForm : Judgement
   answer : Answer (List ℕ) → Judgement
@@ -23,10 +24,12 @@ pub data Judgement : Type 0 where
 abbrev pub sixteen : List ℕ → List ℕ
 sixteen new = values (count new) 0 16
 
--- The check's answer, an accepted structure told by its counts.
+-- The answer of the check, and then of the making step with the counts that it gave; an accepted structure is told by its counts.
 unfoldable pub answered : ℕ → ℕ → List ℕ → List ℕ → List ℕ → List ℕ → Judgement
 answered N u mem list marks handle =
-    answer (andThen (check N u mem list marks handle size) (λ new. accepted (sixteen new)))
+    answer
+    (andThen (check N u mem list marks)
+    (λ counts. andThen (create N u mem counts handle size) (λ new. accepted (sixteen new))))
 
 -- "Input of another form, or over 1,717 bytes, prints the line `input` only. Otherwise .. `accept` with the new counts of users 0 to
 -- N-1, or `refuse` with number and both places." The counts are those of all sixteen users, of which the program prints the first N.

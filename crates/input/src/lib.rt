@@ -1,5 +1,6 @@
 // The desk program's input: whether it is of the stated form, and if so the client's check of the
-// parts that it holds. It reads and prints nothing; the bytes are whatever the program was given.
+// parts that it holds, and the making step with what the check gives. It reads and prints nothing; the
+// bytes are whatever the program was given.
 //
 // What an input's parts are and what is to be said of it stands in specs/. The report is that, for
 // every input of any length.
@@ -98,7 +99,7 @@ fn take_apart(sent: &[u8], n: usize, marks: &mut [u8], list: &mut [u8])
     }
 }
 
-// The report of the check's answer, given what the check left in the buffer of the new structure.
+// The report of a call's answer, given what the making step left in the buffer of the new structure.
 fn tell(users: u8, user: u8, answer: Check, new: &[u8]) -> Report
     ensures { λ r. ⌜ Reports (Judgement.answer (andThen (checkedOf (now (new .entry)) answer) (λ s. accepted (sixteen s)))) users user r ⌝ }
 {
@@ -122,7 +123,8 @@ fn tell(users: u8, user: u8, answer: Check, new: &[u8]) -> Report
     }
 }
 
-// The report on the check of these marks and records, with all else as it stands in the input.
+// The report on the check of these marks and records, and on the making step after it, with all else
+// as it stands in the input.
 fn ask(input: &[u8], start: usize, list: &[u8], marks: &[u8]) -> Report
     requires { ⌜ 35 ≤ start ⌝ }
     requires { ⌜ start ≤ length (now input) ⌝ }
@@ -134,16 +136,21 @@ fn ask(input: &[u8], start: usize, list: &[u8], marks: &[u8]) -> Report
     let users = input[0];
     let user = input[1];
     let mut new = [0u8; SIZE];
-    let answer = client::check(
+    let judged = client::check(users, user, &input[MEMORY..start], list, marks);
+    let answer = judged.answer;
+    let Check::Passed = answer else {
+        return tell(users, user, answer, &new);
+    };
+    let counts = judged.counts;
+    let made = create::create(
         users,
         user,
         &input[MEMORY..start],
-        list,
-        marks,
+        &counts,
         &input[HANDLE..FLAG],
         &mut new,
     );
-    tell(users, user, answer, &new)
+    tell(users, user, made, &new)
 }
 
 // The report on an input of the stated form.
@@ -159,8 +166,8 @@ fn checked(input: &[u8]) -> Report
     ask(input, start, &list[..SIZE * n], &marks[..n])
 }
 
-// The report on an input: it is of another form, or it holds u, N and all that the check is asked
-// about, and this is the check's answer.
+// The report on an input: it is of another form, or it holds u, N and all that the two calls are asked
+// about, and this is their answer.
 //
 // Any bytes of any length are taken, and nothing is kept.
 pub fn judge(input: &[u8]) -> Report

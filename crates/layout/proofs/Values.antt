@@ -21,6 +21,9 @@ getD-values f i (suc k) zero h = let e : i ≡ i + 0 = omega arith in ap f e
 getD-values f i (suc k) (suc j) h =
     let e : suc i + j ≡ i + suc j = omega arith in getD-values f (suc i) k j (omega arith) ∙ ap f e
 
+pub value-at : (f : ℕ → ℕ) (k j : ℕ) → j < k → getD (values f 0 k) j 0 ≡ f j
+value-at f k j h = let e : 0 + j ≡ j = omega arith in getD-values f 0 k j h ∙ ap f e
+
 -- Functions that agree at each place have the same values.
 pub values-cong : (f g : ℕ → ℕ) (i k : ℕ) → ((j : ℕ) → i ≤ j → j < i + k → f j ≡ g j) → values f i k ≡ values g i k
 unfolding values

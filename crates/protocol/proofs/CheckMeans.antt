@@ -8,7 +8,6 @@ use lib.Dec.{leb, ltb, eqb}
 use lib.ListN.{length, getD}
 use borrow.Author.Tests.{leb-true, ltb-true, eqb-true, eqb-false, le-leb, lt-ltb, eq-eqb, ne-eqb, not-true}
 use Rattle.search.specs.Pairs.{everyPair, firstLow, firstHigh}
-use Rattle.search.proofs.Bool.{either-true, left-true, right-true}
 use Rattle.refusal.specs.Answer.{accepted}
 use Rattle.refusal.specs.Order.{Step, unless, unlessEach, inOrder}
 use Rattle.refusal.proofs.Means.{Means, Stage, Either, Unless, AtFirst, AtFirstPair, alike, means-accepted, means-refused}
@@ -17,61 +16,58 @@ use Rattle.protocol.specs.Version.{size, count}
 use Rattle.protocol.specs.List.{records, wellPlaced}
 use Rattle.protocol.specs.Check.{lastCount, remembers, current, ordered, sizeSteps, formSteps, orderSteps, check}
 use Rattle.protocol.specs.History.{Call, called}
-use Rattle.protocol.specs.Meaning.{Users, Sizes, Remembered, WellPlaced, Marked, Current, NotLast, Ordered, newOf}
+use Rattle.protocol.specs.Meaning.{Users, Sizes, Remembered, WellPlaced, Marked, Current, NotLast, Ordered, newOf, newCounts}
 use Rattle.protocol.specs.Meaning.{ToSizes, ToRemembered, ToPlaced, ToMarked, ToCurrent, ToNotLast, AllConditions, CheckMeans}
 use Rattle.protocol.specs.Meaning.{Why, users, lengths, remembered, placed, unmarked, not-current, last, unordered}
-use Rattle.protocol.proofs.Conditions.{remembers-means, well-placed, current-means, ordered-means}
+use Rattle.protocol.proofs.Conditions.{none-or-one, remembers-means, well-placed, current-means, ordered-means}
+
+-- The conditions that the making step has too.
+module _ (N u : ℕ) where
+  pub users-stage : Stage (alike (leb 1 N ∷ leb N 16 ∷ ltb u N ∷ []) 1 0 0) (Users N u) (Unless (Users N u) 1 0 0)
+  users-stage =
+      tests-mean (leb 1 N ∷ leb N 16 ∷ ltb u N ∷ []) 1 0 0
+      (λ t. (leb-true 1 N (t .0), leb-true N 16 (t .1 .0), ltb-true u N (t .1 .1 .0)))
+      (λ w. (le-leb 1 N (w .0), (le-leb N 16 (w .1), (lt-ltb u N (w .2), tt))))
+
+  pub remembered-stage :
+      (mem : List ℕ) → Stage (alike (remembers N u mem ∷ []) 3 16 0) (Remembered N u mem) (Unless (Remembered N u mem) 3 16 0)
+  remembered-stage mem =
+      tests-mean (remembers N u mem ∷ []) 3 16 0 (λ t. remembers-means N u mem .0 (t .0)) (λ w. (remembers-means N u mem .1 w, tt))
+
+pub last-stage :
+    (u : ℕ) (mem : List ℕ) → Stage (alike (not (eqb (count mem u) lastCount) ∷ []) 6 0 0) (NotLast u mem) (Unless (NotLast u mem) 6 0 0)
+last-stage u mem =
+    tests-mean (not (eqb (count mem u) lastCount) ∷ []) 6 0 0
+    (λ t. eqb-false (count mem u) lastCount (not-true (eqb (count mem u) lastCount) (t .0)))
+    (λ w. (ap not (ne-eqb (count mem u) lastCount w), tt))
 
 module _ (N : ℕ) (mem : List ℕ) (c : Call) where
-  pub users-stage : Stage (alike (leb 1 N ∷ leb N 16 ∷ ltb (c .user) N ∷ []) 1 0 0) (Users N (c .user)) (Unless (Users N (c .user)) 1 0 0)
-  users-stage =
-      tests-mean (leb 1 N ∷ leb N 16 ∷ ltb (c .user) N ∷ []) 1 0 0
-      (λ t. (leb-true 1 N (t .0), leb-true N 16 (t .1 .0), ltb-true (c .user) N (t .1 .1 .0)))
-      (λ w. (le-leb 1 N (w .0), (le-leb N 16 (w .1), (lt-ltb (c .user) N (w .2), tt))))
-
   abbrev pub sizeTests : List Bool
   sizeTests =
       (eqb (length mem) 0 || eqb (length mem) size) ∷
       eqb (size * records (c .list)) (length (c .list)) ∷
-      leb (records (c .list)) N ∷ eqb (length (c .marks)) (records (c .list)) ∷ eqb (length (c .handle)) 32 ∷ eqb (c .room) size ∷ []
+      leb (records (c .list)) N ∷ eqb (length (c .marks)) (records (c .list)) ∷ []
 
   pub sizes-stage : Stage (alike sizeTests 2 0 0) (Sizes N mem c) (Unless (Sizes N mem c) 2 0 0)
   sizes-stage =
       tests-mean sizeTests 2 0 0
       (λ t.
       record {
-        none-or-one =
-            ⊎-elim (λ e. inl (eqb-true (length mem) 0 e)) (λ e. inr (eqb-true (length mem) size e))
-            (either-true (eqb (length mem) 0) (eqb (length mem) size) (t .0));
+        none-or-one = none-or-one mem .0 (t .0);
         whole = eqb-true (size * records (c .list)) (length (c .list)) (t .1 .0);
         at-most = leb-true (records (c .list)) N (t .1 .1 .0);
         one-mark-each = eqb-true (length (c .marks)) (records (c .list)) (t .1 .1 .1 .0);
-        handle-long = eqb-true (length (c .handle)) 32 (t .1 .1 .1 .1 .0);
-        answer-long = eqb-true (c .room) size (t .1 .1 .1 .1 .1 .0);
       })
       (λ w. (
-        ⊎-elim (λ e. left-true (eqb (length mem) 0) (eqb (length mem) size) (eq-eqb (length mem) 0 e))
-            (λ e. right-true (eqb (length mem) 0) (eqb (length mem) size) (eq-eqb (length mem) size e)) (w .none-or-one),
+        none-or-one mem .1 (w .none-or-one),
         (
           eq-eqb (size * records (c .list)) (length (c .list)) (w .whole),
           (
             le-leb (records (c .list)) N (w .at-most),
-            (
-              eq-eqb (length (c .marks)) (records (c .list)) (w .one-mark-each),
-              (
-                eq-eqb (length (c .handle)) 32 (w .handle-long),
-                (eq-eqb (c .room) size (w .answer-long), tt),
-              ),
-            ),
+            (eq-eqb (length (c .marks)) (records (c .list)) (w .one-mark-each), tt),
           ),
         ),
       ))
-
-  remembered-stage :
-      Stage (alike (remembers N (c .user) mem ∷ []) 3 16 0) (Remembered N (c .user) mem) (Unless (Remembered N (c .user) mem) 3 16 0)
-  remembered-stage =
-      tests-mean (remembers N (c .user) mem ∷ []) 3 16 0 (λ t. remembers-means N (c .user) mem .0 (t .0))
-      (λ w. (remembers-means N (c .user) mem .1 w, tt))
 
   placed-stage :
       Stage (unlessEach (wellPlaced N (c .list)) (records (c .list)) 3 ∷ []) ((i : ℕ) → i < records (c .list) → WellPlaced N (c .list) i)
@@ -94,13 +90,6 @@ module _ (N : ℕ) (mem : List ℕ) (c : Call) where
   current-stage w =
       let m = current-means N (c .list) (w .0 .0 .0 .1 .whole) (w .0 .1) (c .user) mem in
       tests-mean (current (c .user) mem (c .list) ∷ []) 5 0 0 (λ t. m .0 (t .0)) (λ k. (m .1 k, tt))
-
-  last-stage :
-      Stage (alike (not (eqb (count mem (c .user)) lastCount) ∷ []) 6 0 0) (NotLast (c .user) mem) (Unless (NotLast (c .user) mem) 6 0 0)
-  last-stage =
-      tests-mean (not (eqb (count mem (c .user)) lastCount) ∷ []) 6 0 0
-      (λ t. eqb-false (count mem (c .user)) lastCount (not-true (eqb (count mem (c .user)) lastCount) (t .0)))
-      (λ w. (ap not (ne-eqb (count mem (c .user)) lastCount w), tt))
 
   pairs-stage :
       Stage
@@ -132,8 +121,8 @@ module _ (N : ℕ) (mem : List ℕ) (c : Call) where
 
   all-stages :
       Stage
-      (sizeSteps N (c .user) mem (c .list) (c .marks) (c .handle) (c .room) ++
-      (formSteps N (c .user) mem (c .list) (c .marks) ++ orderSteps (c .user) mem (c .list) (newOf mem c)))
+      (sizeSteps N (c .user) mem (c .list) (c .marks) ++
+      (formSteps N (c .user) mem (c .list) (c .marks) ++ orderSteps (c .user) mem (c .list)))
       (AllConditions N mem c) Given
   unfolding sizeSteps formSteps orderSteps
   all-stages =
@@ -142,22 +131,22 @@ module _ (N : ℕ) (mem : List ℕ) (c : Call) where
       (and-then _ _
       (and-then _ _
       (and-then _ _
-      (and-then _ _ (and-then _ _ users-stage (λ w. sizes-stage)) (λ w. remembered-stage)) (λ w. placed-stage))
+      (and-then _ _ (and-then _ _ (users-stage N (c .user)) (λ w. sizes-stage)) (λ w. remembered-stage N (c .user) mem)) (λ w. placed-stage))
       (λ w. marked-stage))
       current-stage)
-      (λ w. last-stage))
+      (λ w. last-stage (c .user) mem))
       (λ w. pairs-stage)
 
-  check-stages : Means (called N mem c) (newOf mem c) (AllConditions N mem c) Given
+  check-stages : Means (called N mem c) (newCounts mem c) (AllConditions N mem c) Given
   unfolding check
   check-stages =
-      let sizes : List Step = sizeSteps N (c .user) mem (c .list) (c .marks) (c .handle) (c .room) in
+      let sizes : List Step = sizeSteps N (c .user) mem (c .list) (c .marks) in
       let forms : List Step = formSteps N (c .user) mem (c .list) (c .marks) in
-      let orders : List Step = orderSteps (c .user) mem (c .list) (newOf mem c) in
-      let e : inOrder (sizes ++ (forms ++ orders)) (accepted (newOf mem c)) ≡ called N mem c =
-      in-append sizes (forms ++ orders) (accepted (newOf mem c)) ∙ ap (inOrder sizes) (in-append forms orders (accepted (newOf mem c)))
+      let orders : List Step = orderSteps (c .user) mem (c .list) in
+      let e : inOrder (sizes ++ (forms ++ orders)) (accepted (newCounts mem c)) ≡ called N mem c =
+      in-append sizes (forms ++ orders) (accepted (newCounts mem c)) ∙ ap (inOrder sizes) (in-append forms orders (accepted (newCounts mem c)))
       in
-      rw e at (concludes (sizes ++ (forms ++ orders)) all-stages (newOf mem c))
+      rw e at (concludes (sizes ++ (forms ++ orders)) all-stages (newCounts mem c))
 
   why-given : (n p q : ℕ) → Given n p q → Why N mem c n p q
   why-given n p q =

@@ -2,7 +2,7 @@
 use Prim.Native.Nat.{ℕ, zero, suc, _+_, _-_, _*_, _≤_, _<_}
 use mathlib.Core.Bool.{Bool, true, false, not, _&&_, _||_}
 use mathlib.Core.List.{List, [], _∷_}
-use mathlib.Core.Logic.{_↔_, inl, inr, ⊎-elim}
+use mathlib.Core.Logic.{_⊎_, _↔_, inl, inr, ⊎-elim}
 use mathlib.Core.Path.{_≡_, refl, sym, ap, _∙_}
 use native.Mathlib.Decide.{decLt}
 use native.Mathlib.Nat.{eq-or-lt-of-le}
@@ -16,11 +16,11 @@ use Rattle.search.proofs.Search.{every-at, every-intro, first-failure, find-at}
 use Rattle.layout.proofs.Bytes.{four-past}
 use Rattle.layout.proofs.Strings.{same-true, same-refl}
 use Rattle.layout.proofs.Parts.{part-length}
-use Rattle.protocol.specs.Version.{size, kind, owner, count, own, wellFormed, countsStrictlyBefore, atOrBefore, strictlyBefore}
+use Rattle.protocol.specs.Version.{size, kind, owner, count, own, wellFormed, countsBefore, countsStrictlyBefore, atOrBefore, strictlyBefore}
 use Rattle.protocol.specs.List.{records, recordAt, entry, wellPlaced}
 use Rattle.protocol.specs.Check.{remembers, current, ordered}
-use Rattle.protocol.specs.Meaning.{WellFormed, StrictlyBefore, Remembered, WellPlaced, Current, Ordered}
-use Rattle.protocol.proofs.Version.{before-at, before-intro, strictly-intro}
+use Rattle.protocol.specs.Meaning.{WellFormed, StrictlyBefore, StrictlyBeforeCounts, Remembered, WellPlaced, Current, Ordered}
+use Rattle.protocol.proofs.Version.{at-most, at-most-intro, before-at, before-intro, strictly-intro}
 use Rattle.protocol.proofs.List.{entry-cases}
 
 both-intro : (a b : Bool) → a ≡ true → b ≡ true → (a && b) ≡ true
@@ -61,21 +61,35 @@ owner-below N x h w =
       | no g ↦ absurd (well-formed N x .0 w .own-counted (four-past x (34 + 4 * owner x) (omega arith)))
     ]
 
-pub strictly-means : (x y : List ℕ) → (strictlyBefore x y ≡ true) ↔ StrictlyBefore x y
+pub strictly-counts : (x : List ℕ) (g : ℕ → ℕ) → (countsStrictlyBefore (count x) g ≡ true) ↔ StrictlyBeforeCounts x g
 unfolding countsStrictlyBefore
-strictly-means x y =
-    let same : Bool = every (λ v. eqb (count x v) (count y v)) 0 16 in (
+strictly-counts x g =
+    let f : ℕ → ℕ = count x in
+    let same : Bool = every (λ v. eqb (f v) (g v)) 0 16 in (
       λ e.
-          let p = both-true (atOrBefore x y) (not same) e in
-          let f = first-failure (λ v. eqb (count x v) (count y v)) 0 16 (not-true same (p .1)) in
-          let v : ℕ = find (λ w. not (eqb (count x w) (count y w))) 0 16 in
-          (before-at x y (p .0), (v, omega (arith, f .0), eqb-false (count x v) (count y v) (f .1))),
+          let p = both-true (countsBefore f g) (not same) e in
+          let m = first-failure (λ v. eqb (f v) (g v)) 0 16 (not-true same (p .1)) in
+          let v : ℕ = find (λ w. not (eqb (f w) (g w))) 0 16 in
+          (at-most f g (p .0), (v, omega (arith, m .0), eqb-false (f v) (g v) (m .1))),
       λ w.
           let v : ℕ = w .1 .0 in
           let h = w .0 v (w .1 .1) in
           let ne = w .1 .2 in
-          strictly-intro x y (before-intro x y (w .0)) v (w .1 .1) (⊎-elim (λ e. absurd (ne e)) (λ l. l) (eq-or-lt-of-le h)),
+          strictly-intro f g (at-most-intro f g (w .0)) v (w .1 .1) (⊎-elim (λ e. absurd (ne e)) (λ l. l) (eq-or-lt-of-le h)),
     )
+
+pub strictly-means : (x y : List ℕ) → (strictlyBefore x y ≡ true) ↔ StrictlyBefore x y
+strictly-means x y = strictly-counts x (count y)
+
+pub none-or-one : (mem : List ℕ) → ((eqb (length mem) 0 || eqb (length mem) size) ≡ true) ↔ ((length mem ≡ 0) ⊎ (length mem ≡ size))
+none-or-one mem = (
+  λ t.
+      ⊎-elim (λ e. inl (eqb-true (length mem) 0 e)) (λ e. inr (eqb-true (length mem) size e))
+      (either-true (eqb (length mem) 0) (eqb (length mem) size) t),
+  λ w.
+      ⊎-elim (λ e. left-true (eqb (length mem) 0) (eqb (length mem) size) (eq-eqb (length mem) 0 e))
+      (λ e. right-true (eqb (length mem) 0) (eqb (length mem) size) (eq-eqb (length mem) size e)) w,
+)
 
 pub remembers-means : (N u : ℕ) (mem : List ℕ) → (remembers N u mem ≡ true) ↔ Remembered N u mem
 unfolding remembers
@@ -116,7 +130,7 @@ well-placed N list i =
           (bool-cases (eqb i 0))),
     )
 
-pub ordered-means : (list new : List ℕ) (i j : ℕ) → j ≤ records list → (ordered list new i j ≡ true) ↔ Ordered list new i j
+pub ordered-means : (list : List ℕ) (new : ℕ → ℕ) (i j : ℕ) → j ≤ records list → (ordered list new i j ≡ true) ↔ Ordered list new i j
 unfolding ordered
 ordered-means list new i j h =
     let x : List ℕ = recordAt list i in
@@ -124,8 +138,8 @@ ordered-means list new i j h =
     ⊎-elim
     (λ (e : j ≡ records list).
     let t : ltb j (records list) ≡ false = le-ltb j (records list) (omega arith) in (
-      λ o. (λ l. absurd (omega arith), λ z. strictly-means x new .0 (rw t at o)),
-      λ w. rw t (strictly-means x new .1 (w .1 e)),
+      λ o. (λ l. absurd (omega arith), λ z. strictly-counts x new .0 (rw t at o)),
+      λ w. rw t (strictly-counts x new .1 (w .1 e)),
     ))
     (λ (l : j < records list).
     let t : ltb j (records list) ≡ true = lt-ltb j (records list) l in (

@@ -2,20 +2,23 @@
 use Prim.Native.Nat.{ℕ, zero, suc, _<_}
 use mathlib.Core.List.{List, [], _∷_}
 use mathlib.Core.Logic.{inl, inr, ⊎-elim}
-use mathlib.Core.Path.{refl}
+use mathlib.Core.Path.{_≡_, refl}
 use native.Mathlib.Nat.{eq-or-lt-of-le}
 use native.Mathlib.Omega.{arith}
+use Rattle.refusal.specs.Answer.{refused}
 use Rattle.refusal.specs.Order.{inOrder}
 use Rattle.search.specs.Search.{find, every}
 use Rattle.layout.specs.Strings.{same}
 use Rattle.search.specs.Pairs.{everyPair, firstLow, firstHigh}
-use Rattle.layout.specs.Bytes.{four, bytes4}
+use Rattle.layout.specs.Bytes.{four, bytes4, values}
 use Rattle.protocol.specs.Version.{owner, counts, structure, wellFormed, countsBefore, countsStrictlyBefore}
 use Rattle.protocol.specs.List.{recordAt, entry, wellPlaced}
-use Rattle.protocol.specs.Check.{next, remembers, current, ordered, sizeSteps, formSteps, orderSteps, check}
-use Rattle.protocol.specs.History.{Call, memory, Signed}
-use Rattle.protocol.specs.NoJoin.{MarkedPremise}
-use Rattle.protocol.specs.ForkedRun.{counting, callOn, p1, p2, p3, p4, p5, forkedRun, ForkedRun}
+use Rattle.protocol.specs.Check.{nextCounts, remembers, current, ordered, sizeSteps, formSteps, orderSteps, check}
+use Rattle.protocol.specs.Create.{lengthSteps, countSteps, create}
+use Rattle.protocol.specs.History.{Call, Making, Event, checks, creates, memory, answer, Signed}
+use Rattle.protocol.specs.NoJoin.{CheckedCounts, MarkedRecords}
+use Rattle.protocol.specs.ForkedRun.{counting, twoCounts, callOn, makingOf, p1, p2, p3, p4, p5, m1, m2, m3, m4, again}
+use Rattle.protocol.specs.ForkedRun.{twoSigned, forkedRun, ForkedRun}
 use Rattle.protocol.proofs.MarkedSuffices.{marked-suffices}
 
 -- P holds at each of the n places from 0 on.
@@ -28,33 +31,78 @@ below P zero b i h = absurd (omega arith)
 below P (suc n) b i h = ⊎-elim (λ e. rw e (b .1)) (λ l. below P n (b .0) i l) (eq-or-lt-of-le {n = i} {m = n} (omega arith))
 
 -- Record i of the call's list was signed earlier by its owner.
-abbrev Covered : List Call → Call → ℕ → Type 0
+abbrev Covered : List Event → Call → ℕ → Type 0
 Covered earlier c i = Signed 2 earlier (owner (recordAt (c .list) i)) (recordAt (c .list) i)
+
+-- What is said of every check that an event is, said of the one that it is, or of none where it is a making step; and the other way round.
+at-check : (P : Call → Type 0) (c : Call) → P c → (d : Call) → checks c ≡ checks d → P d
+at-check P c p d e = let same : c ≡ d = cc in rw (← same) p
+
+no-check : (P : Call → Type 0) (m : Making) (d : Call) → creates m ≡ checks d → P d
+no-check P m d e = let z : _≡_ {A = ℕ} 0 1 = cc in absurd (omega arith)
+
+at-making : (P : Making → Type 0) (m : Making) → P m → (n : Making) → creates m ≡ creates n → P n
+at-making P m p n e = let same : m ≡ n = cc in rw (← same) p
+
+no-making : (P : Making → Type 0) (c : Call) (n : Making) → checks c ≡ creates n → P n
+no-making P c n e = let z : _≡_ {A = ℕ} 0 1 = cc in absurd (omega arith)
 
 pub forked-run : ForkedRun
 unfolding
-    p1 p2 p3 p4 p5 callOn counting counts structure wellFormed countsBefore countsStrictlyBefore entry wellPlaced next remembers current ordered
-    sizeSteps formSteps orderSteps check memory four bytes4 find every same everyPair firstLow firstHigh inOrder
+    p1 p2 p3 p4 p5 m1 m2 m3 m4 again callOn makingOf counting twoCounts counts structure wellFormed countsBefore countsStrictlyBefore entry
+    wellPlaced nextCounts values remembers current ordered sizeSteps formSteps orderSteps check lengthSteps countSteps create memory four bytes4
+    find every same everyPair firstLow firstHigh inOrder
 forked-run =
-    let all-covered : MarkedPremise 2 (λ v. Unit) forkedRun = (
-      λ i l m h. below (Covered (p3 ∷ p2 ∷ p1 ∷ []) p4) 2 ((tt, inr (inr (inl (refl, refl)))), inr (inl (refl, refl))) i l,
+    let covered : MarkedRecords 2 (λ v. Unit) forkedRun = (
+      no-check _ m3,
       (
-        λ i l m h. below (Covered (p2 ∷ p1 ∷ []) p3) 2 ((tt, inr (inl (refl, refl))), inl (refl, refl)) i l,
+        no-check _ m4,
         (
-          λ i l m h. below (Covered (p1 ∷ []) p2) 1 (tt, inl (refl, refl)) i l,
-          (λ i l m h. below (Covered [] p1) 0 tt i l, tt),
+          at-check _ p4
+              (λ i l m h. below (Covered (checks p3 ∷ twoSigned) p4) 2 ((tt, inr (inr (inr (inl (refl, refl))))), inr (inl (refl, refl))) i l),
+          (
+            at-check _ p3 (λ i l m h. below (Covered twoSigned p3) 2 ((tt, inr (inr (inl (refl, refl)))), inl (refl, refl)) i l),
+            (
+              no-check _ m2,
+              (
+                at-check _ p2 (λ i l m h. below (Covered (creates m1 ∷ checks p1 ∷ []) p2) 1 (tt, inl (refl, refl)) i l),
+                (no-check _ m1, (at-check _ p1 (λ i l m h. below (Covered [] p1) 0 tt i l), tt)),
+              ),
+            ),
+          ),
+        ),
+      ),
+    )
+    in
+    let given : CheckedCounts 2 (λ v. Unit) forkedRun = (
+      at-making _ m3 (λ x a h. inr (inr (inl (p3, refl, refl, refl)))),
+      (
+        at-making _ m4 (λ x a h. inl (p4, refl, refl, refl)),
+        (
+          no-making _ p4,
+          (
+            no-making _ p3,
+            (
+              at-making _ m2 (λ x a h. inl (p2, refl, refl, refl)),
+              (no-making _ p2, (at-making _ m1 (λ x a h. inl (p1, refl, refl, refl)), (no-making _ p1, tt))),
+            ),
+          ),
         ),
       ),
     )
     in
     record {
-      premise = marked-suffices 2 (λ v. Unit) forkedRun all-covered .0;
-      marked-premise = all-covered;
-      signed-by-a = inr (inl (refl, refl));
-      signed-by-b = inl (refl, refl);
+      premise = marked-suffices 2 (λ v. Unit) forkedRun (covered, given) .0;
+      marked-premise = (covered, given);
+      signed-by-a = inl (refl, refl);
+      signed-by-b = inr (inl (refl, refl));
       fewer-of-b = omega arith;
       fewer-of-a = omega arith;
       two-entries = refl;
       third-accepts = refl;
-      fifth-refused = refl;
+      fourth-accepts = refl;
+      b-makes = refl;
+      a-makes = refl;
+      again-refused = refl;
+      fifth-refused = below (λ user. answer 2 forkedRun (p5 user) ≡ refused 7 0 1) 2 ((tt, refl), refl);
     }

@@ -1,5 +1,6 @@
 -- The client's check of an honest turn: every condition but the last count's is met, since the list shows what is held and the user remembers
--- its own entry. Where its own count is not the last it accepts the next structure, and the server's list then takes that.
+-- its own entry. Where its own count is not the last it accepts, the making step makes the next structure from the counts, and the server's
+-- list then takes that.
 use Prim.Native.Nat.{ℕ, _+_, _≤_, _<_}
 use mathlib.Core.Bool.{true}
 use mathlib.Core.List.{List}
@@ -18,17 +19,22 @@ use Rattle.protocol.specs.declared.Server.{Server}
 use Rattle.protocol.specs.Version.{size, owner, count, own, wellFormed, strictlyBefore}
 use Rattle.protocol.specs.List.{records}
 use Rattle.protocol.specs.Check.{lastCount}
+use Rattle.protocol.specs.Create.{create}
 use Rattle.protocol.specs.Server.{held, heldOwn, allHeld, follows, replaced, commitSteps, commit}
 use Rattle.protocol.specs.History.{Call, called}
-use Rattle.protocol.specs.Meaning.{Sizes, Current, Ordered, ToCurrent, last}
+use Rattle.protocol.specs.Meaning.{StrictlyBeforeCounts, Sizes, Current, Ordered, newOf, ToCurrent, last}
 use Rattle.protocol.specs.Steady.{Kept}
 use Rattle.protocol.proofs.Conditions.{well-formed, strictly-means}
 use Rattle.protocol.proofs.CheckMeans.{check-means}
+use Rattle.protocol.proofs.NewMeans.{next-at}
+use Rattle.protocol.proofs.CreateAfterCheck.{create-after-check}
 use Rattle.protocol.proofs.Listing.{listing-placed}
 use Rattle.protocol.proofs.HonestNext.{
   Ready,
   user-below,
+  given-next,
   made-next,
+  next-count,
   all-listed,
   next-length,
   next-owner,
@@ -42,7 +48,7 @@ module _ {N : ℕ} {s : Server} {memory : ℕ → List ℕ} {u : ℕ} {handle : 
   -- The user's call on the list of all records held, each with mark 1.
   abbrev pub honest-call : Call
   honest-call =
-      record { user = u; list = allHeld s; marks = replicate (records (allHeld s)) 1; handle = handle; room = size }
+      record { user = u; list = allHeld s; marks = replicate (records (allHeld s)) 1 }
 
   own-kept : Kept N u (held s u)
   own-kept = r .steady .kept u (user-below r)
@@ -54,8 +60,6 @@ module _ {N : ℕ} {s : Server} {memory : ℕ → List ℕ} {u : ℕ} {handle : 
         whole = all-listed r .whole;
         at-most = omega (arith, all-listed r .few);
         one-mark-each = length-replicate {A = ℕ} (records (allHeld s)) 1;
-        handle-long = r .handled;
-        answer-long = refl;
       }
 
   is-current : Current u (held s u) (allHeld s)
@@ -84,18 +88,31 @@ module _ {N : ℕ} {s : Server} {memory : ℕ → List ℕ} {u : ℕ} {handle : 
     is-current,
   )
 
+  held-before-counts : (v : ℕ) → v < 16 → StrictlyBeforeCounts (held s v) (newOf (held s u) honest-call)
+  held-before-counts v l =
+      let b = held-before r v l in
+      let at : (w : ℕ) → w < 16 → count (made-next r) w ≡ newOf (held s u) honest-call w = λ w m. next-count r w m ∙ next-at u (held s u) (allHeld s) w m in (
+        λ w m. omega (arith, b .0 w m, at w m),
+        (b .1 .0, b .1 .1, λ e. b .1 .2 (e ∙ sym (at (b .1 .0) (b .1 .1)))),
+      )
+
   -- Two records held are ordered, and each is before the next structure.
-  all-ordered : (i j : ℕ) → i < j → j ≤ records (allHeld s) → Ordered (allHeld s) (made-next r) i j
+  all-ordered : (i j : ℕ) → i < j → j ≤ records (allHeld s) → Ordered (allHeld s) (newOf (held s u) honest-call) i j
   all-ordered i j a b =
       let x = all-listed r .each i (omega arith) in (
         λ l.
             let y = all-listed r .each j l in
             rw (x .is-held, y .is-held) (r .steady .ordered _ _ (x .within) (y .within)),
-        λ e. rw (x .is-held) (held-before r _ (x .within)),
+        λ e. rw (x .is-held) (held-before-counts _ (x .within)),
       )
 
-  pub checked-next : (heldOwn s u ≡ lastCount → ⊥) → called N (held s u) honest-call ≡ accepted (made-next r)
-  checked-next n = check-means N (held s u) honest-call .0 (made-next r) .1 (((to-current, n), all-ordered), refl)
+  pub checked-next : (heldOwn s u ≡ lastCount → ⊥) → called N (held s u) honest-call ≡ accepted (given-next r)
+  checked-next n = check-means N (held s u) honest-call .0 (given-next r) .1 (((to-current, n), all-ordered), refl)
+
+  pub created-next :
+      (heldOwn s u ≡ lastCount → ⊥) → create N u (held s u) (given-next r) handle size ≡ accepted (made-next r)
+  created-next n =
+      create-after-check .accepts N u (held s u) (allHeld s) (replicate (records (allHeld s)) 1) (given-next r) handle (checked-next n) (r .handled)
 
   pub checked-last : heldOwn s u ≡ lastCount → called N (held s u) honest-call ≡ refused 6 0 0
   checked-last e = check-means N (held s u) honest-call .1 6 0 0 .1 (last to-current (λ n. n e))

@@ -6,15 +6,15 @@ use mathlib.Core.Logic.{⊎-elim}
 use mathlib.Core.Path.{_≡_, refl, ap, _∙_}
 use native.Mathlib.Decide.{ℕ-discrete}
 use native.Mathlib.Omega.{arith}
-use lib.ListN.{length}
+use lib.ListN.{length, getD}
 use Rattle.protocol.specs.declared.Server.{Server}
 use Rattle.protocol.specs.Version.{size, kind, owner, count, structure}
 use Rattle.protocol.specs.List.{entry}
-use Rattle.protocol.specs.Check.{next}
+use Rattle.protocol.specs.Check.{nextCounts}
 use Rattle.protocol.specs.Server.{held, heldOwn, allHeld}
 use Rattle.protocol.specs.Meaning.{StrictlyBefore}
 use Rattle.protocol.specs.Steady.{Proper, Steady}
-use Rattle.protocol.proofs.Version.{length-structure, owner-structure}
+use Rattle.protocol.proofs.Version.{length-structure, count-structure, owner-structure}
 use Rattle.protocol.proofs.NewMeans as New
 use Rattle.protocol.proofs.Held.{count-none}
 use Rattle.protocol.proofs.Listing.{Listing, listing-from, entry-held}
@@ -30,9 +30,15 @@ module _ {N : ℕ} {s : Server} {memory : ℕ → List ℕ} {u : ℕ} {handle : 
   pub user-below : u < 16
   user-below = omega (arith, r .small, r .user)
 
-  -- The structure that the user makes next, on the list of all records held.
+  -- The counts that the user's check gives, on the list of all records held, and the structure that is made from them.
+  abbrev pub given-next : List ℕ
+  given-next = nextCounts u (held s u) (allHeld s)
+
   abbrev pub made-next : List ℕ
-  made-next = next u (held s u) (allHeld s) handle
+  made-next = structure u handle (λ v. getD given-next v 0)
+
+  pub next-count : (v : ℕ) → v < 16 → count made-next v ≡ getD given-next v 0
+  next-count v l = count-structure u handle (λ v. getD given-next v 0) (r .handled) v l
 
   pub all-listed : Listing N s 0 16 (allHeld s)
   all-listed = listing-from N s (r .steady .kept) 0 16 (omega arith)
@@ -41,19 +47,17 @@ module _ {N : ℕ} {s : Server} {memory : ℕ → List ℕ} {u : ℕ} {handle : 
   entry-all v l = entry-held N s (r .steady .kept) 0 16 (allHeld s) all-listed (omega arith) v (omega arith) l
 
   pub next-length : length made-next ≡ size
-  unfolding next
   next-length = length-structure u handle _ (r .handled)
 
   pub next-owner : owner made-next ≡ u
-  unfolding next
   next-owner = owner-structure u handle _ (r .handled)
 
   pub next-own : count made-next u ≡ heldOwn s u + 1
-  next-own = New.next-own u (held s u) (allHeld s) handle (r .handled) user-below
+  next-own = next-count u user-below ∙ New.next-own u (held s u) (allHeld s) user-below
 
   pub next-other : (v : ℕ) → v < 16 → (v ≡ u → ⊥) → count made-next v ≡ heldOwn s v
   next-other v l n =
-      New.next-other u (held s u) (allHeld s) handle (r .handled) v l n ∙ ap (λ (x : List ℕ). count x v) (entry-all v l)
+      next-count v l ∙ (New.next-other u (held s u) (allHeld s) v l n ∙ ap (λ (x : List ℕ). count x v) (entry-all v l))
 
   grows : (w : ℕ) → w < 16 → heldOwn s w ≤ count made-next w
   grows w l =
@@ -71,7 +75,7 @@ module _ {N : ℕ} {s : Server} {memory : ℕ → List ℕ} {u : ℕ} {handle : 
 
   -- It is well formed.
   next-kind : kind made-next ≡ 1
-  unfolding next structure
+  unfolding structure
   next-kind = refl
 
   next-zero : (v : ℕ) → N ≤ v → v < 16 → count made-next v ≡ 0

@@ -1,4 +1,4 @@
--- In reading order: structures and lists, what the check means, the first half of demand 3, the server's list, the honest half.
+-- In reading order: structures and lists, what the check and the making step mean, the first half of demand 3, the server's list, the honest half.
 pub mod Version
 pub mod Standing
 pub mod List
@@ -6,6 +6,9 @@ pub mod Conditions
 pub mod CheckMeans
 pub mod NewMeans
 pub mod Accepts
+pub mod CreateMeans
+pub mod MadeMeans
+pub mod CreateAfterCheck
 pub mod History
 pub mod Clients
 pub mod NoJoin

@@ -1,9 +1,10 @@
--- A fork is never joined, in every run: a call that accepts a list signs its answer, so the calls of a run are clients in the sense of
--- `Clients`.
+-- A fork is never joined, in every run: a making step signs what it writes, from the counts of an earlier check that accepts a list, so
+-- that checks and making steps are clients in the sense of `Clients`. The memory at the check is not compared with that at the making step:
+-- the own counts suffice.
 use Prim.Native.Nat.{ℕ, _+_, _≤_, _<_}
 use mathlib.Core.List.{List}
 use mathlib.Core.Logic.{_⊎_, inl, ⊎-swap}
-use mathlib.Core.Path.{_≡_, refl, sym, _∙_}
+use mathlib.Core.Path.{_≡_, refl, sym, ap, _∙_}
 use native.Mathlib.Decide.{decLt}
 use native.Mathlib.Omega.{arith}
 use lib.ListN.{length}
@@ -12,31 +13,35 @@ use Rattle.refusal.proofs.Run.{Came, each-at, each-intro, came-shorter, came-ea
 use Rattle.protocol.specs.Version.{owner, count, own}
 use Rattle.protocol.specs.List.{records, recordAt, entry}
 use Rattle.protocol.specs.Meaning.{AtOrBefore}
-use Rattle.protocol.specs.History.{Call, memory, answer, Signed}
+use Rattle.protocol.specs.CreateMeaning.{MadeOf}
+use Rattle.protocol.specs.History.{Call, Making, Event, checks, creates, memory, answer, outcome, written, Signed}
 use Rattle.protocol.specs.NoJoin.{Premise, Shows, NoJoin}
 use Rattle.protocol.proofs.List.{entry-counting}
-use Rattle.protocol.proofs.Accepts.{Accepts}
+use Rattle.protocol.proofs.Accepts.{Accepts, accepts}
+use Rattle.protocol.proofs.CreateMeans.{create-means}
+use Rattle.protocol.proofs.MadeMeans.{made-means}
 use Rattle.protocol.proofs.Clients.{Clients, no-list-joins}
-use Rattle.protocol.proofs.History.{accepted-call, signed-call, signed-once}
+use Rattle.protocol.proofs.History.{writes-made, signed-event, gave-call, signed-once}
 
--- The call with t calls before it is one of user a that accepts, with the answer x.
-record Signs (N : ℕ) (run : List Call) (t a : ℕ) (x : List ℕ) : Type 0 where
-  earlier : List Call
-  call : Call
-  came : Came run earlier call
+-- The event with t events before it is a making step of the honest user a that accepts, and writes x.
+record Signs (N : ℕ) (honest : ℕ → Type 0) (run : List Event) (t a : ℕ) (x : List ℕ) : Type 0 where
+  earlier : List Event
+  step : Making
+  came : Came run earlier (creates step)
   when : length earlier ≡ t
-  by : call .user ≡ a
-  answers : answer N earlier call ≡ accepted x
+  by : step .user ≡ a
+  trusted : honest a
+  answers : outcome N earlier step ≡ accepted x
 
--- The call with t calls before it accepts a list whose record at `place` is r, of owner a.
-record Lists (N : ℕ) (run : List Call) (t a : ℕ) (r : List ℕ) : Type 0 where
-  earlier : List Call
+-- The event with t events before it is a check that accepts a list whose record at `place` is r, of owner a.
+record Lists (N : ℕ) (run : List Event) (t a : ℕ) (r : List ℕ) : Type 0 where
+  earlier : List Event
   call : Call
-  made : List ℕ
+  counts : List ℕ
   place : ℕ
-  came : Came run earlier call
+  came : Came run earlier (checks call)
   when : length earlier ≡ t
-  answers : answer N earlier call ≡ accepted made
+  answers : answer N earlier call ≡ accepted counts
   within : place < records (call .list)
   owned : owner (recordAt (call .list) place) ≡ a
   is : recordAt (call .list) place ≡ r
@@ -55,28 +60,40 @@ pairs A i j h l =
           ]
     ]
 
-module _ {N : ℕ} {run : List Call} where
-  signs-accepts : {t a : ℕ} {x : List ℕ} (s : Signs N run t a x) → Accepts N a (memory N (s .earlier) a) (s .call .list) x
-  signs-accepts s = rw (s .by) at (accepted-call N (s .earlier) (s .call) (s .answers))
+accepted-call :
+    (N : ℕ) (earlier : List Event) (c : Call) {counts : List ℕ} → answer N earlier c ≡ accepted counts →
+    Accepts N (c .user) (memory N earlier (c .user)) (c .list) counts
+accepted-call N earlier c {counts} e = accepts N (c .user) (memory N earlier (c .user)) (c .list) (c .marks) counts e
 
-  signs-once : {t t′ a : ℕ} {x x′ : List ℕ} → Signs N run t a x → Signs N run t′ a x′ → count x a ≡ count x′ a → x ≡ x′
-  signs-once s s′ e = signed-once N (s .came) (s′ .came) (s .by ∙ sym (s′ .by)) (s .answers) (s′ .answers) (rw (s′ .by) e)
+module _ {N : ℕ} {honest : ℕ → Type 0} {run : List Event} where
+  signs-made : {t a : ℕ} {x : List ℕ} (s : Signs N honest run t a x) → MadeOf (s .step) x
+  signs-made {x = x} s = made-means N (memory N (s .earlier) (s .step .user)) (s .step) x (s .answers)
 
-  -- The list that a signed structure is made from shows each user that the list's entry counts.
+  signs-user : {t a : ℕ} {x : List ℕ} → Signs N honest run t a x → a < 16
+  signs-user {x = x} s =
+      let u = create-means N (memory N (s .earlier) (s .step .user)) (s .step) .0 x .0 (s .answers) .0 .0 .0 .0 .0 .0 in
+      omega (arith, u .1, u .2, s .by)
+
+  signs-once : {t t′ a : ℕ} {x x′ : List ℕ} → Signs N honest run t a x → Signs N honest run t′ a x′ → count x a ≡ count x′ a → x ≡ x′
+  signs-once s s′ e =
+      signed-once N (s .came) (s′ .came) (s .by ∙ sym (s′ .by)) (ap written (s .answers)) (ap written (s′ .answers)) (rw (s′ .by) e)
+
+module _ {N : ℕ} {run : List Event} where
+  -- The list that a check accepts shows each user that the list's entry counts.
   lists-entry :
-      {t a : ℕ} {x : List ℕ} (s : Signs N run t a x) (v : ℕ) → 0 < count (entry (s .call .list) v) v →
-      (r : List ℕ) × Lists N run t v r × (r ≡ entry (s .call .list) v)
-  lists-entry {x = x} s v h =
-      let f = entry-counting (s .call .list) (signs-accepts s .whole) v h in (
-        recordAt (s .call .list) (f .0),
+      {earlier : List Event} {c : Call} {counts : List ℕ} → Came run earlier (checks c) → answer N earlier c ≡ accepted counts →
+      (v : ℕ) → 0 < count (entry (c .list) v) v → (r : List ℕ) × Lists N run (length earlier) v r × (r ≡ entry (c .list) v)
+  lists-entry {earlier} {c} {counts} came e v h =
+      let f = entry-counting (c .list) (accepted-call N earlier c e .whole) v h in (
+        recordAt (c .list) (f .0),
         record {
-          earlier = s .earlier;
-          call = s .call;
-          made = x;
+          earlier = earlier;
+          call = c;
+          counts = counts;
           place = f .0;
-          came = s .came;
-          when = s .when;
-          answers = s .answers;
+          came = came;
+          when = refl;
+          answers = e;
           within = f .1;
           owned = f .2;
           is = refl;
@@ -84,77 +101,88 @@ module _ {N : ℕ} {run : List Call} where
         f .3,
       )
 
-  signs-own :
-      {t a : ℕ} {x : List ℕ} → Signs N run t a x → 1 < count x a → (r : List ℕ) × Lists N run t a r × (count r a + 1 ≡ count x a)
-  signs-own {a = a} {x = x} s h =
-      let e : count x a ≡ count (entry (s .call .list) a) a + 1 = rw (signs-accepts s .current-entry) (signs-accepts s .counts-own) in
-      let l = lists-entry s a (omega arith) in (l .0, l .1, rw (l .2) (sym e))
-
-  signs-other :
-      {t a : ℕ} {x : List ℕ} → Signs N run t a x → (v : ℕ) → v < 16 → (v ≡ a → ⊥) → 0 < count x v →
-      (r : List ℕ) × Lists N run t v r × (count r v ≡ count x v)
-  signs-other {x = x} s v h n l =
-      let e : count x v ≡ count (entry (s .call .list) v) v = signs-accepts s .counts-other v h n in
-      let r = lists-entry s v (omega arith) in (r .0, r .1, rw (r .2) (sym e))
-
   lists-ordered :
       {t a b : ℕ} {r r′ : List ℕ} → Lists N run t a r → Lists N run t b r′ → AtOrBefore r r′ ⊎ AtOrBefore r′ r
   lists-ordered {r = r} {r′ = r′} l m =
       let same = came-once (l .came) (m .came) (l .when ∙ sym (m .when)) in
-      let w : m .place < records (l .call .list) = rw (same .1) (m .within) in
-      let e : recordAt (l .call .list) (m .place) ≡ r′ = rw (same .1) (m .is) in
+      let calls : l .call ≡ m .call = cc (same .1) in
+      let w : m .place < records (l .call .list) = rw calls (m .within) in
+      let e : recordAt (l .call .list) (m .place) ≡ r′ = rw calls (m .is) in
       rw (l .is, e) at (pairs (accepted-call N (l .earlier) (l .call) (l .answers)) (l .place) (m .place) (l .within) w)
 
-signed-signs : (N : ℕ) (run : List Call) {a : ℕ} {x : List ℕ} → Signed N run a x → (t : ℕ) × (t < length run) × Signs N run t a x
-signed-signs N run m =
-    let s = signed-call N run m in (
+signed-signs :
+    (N : ℕ) (honest : ℕ → Type 0) (run : List Event) {a : ℕ} {x : List ℕ} → honest a → Signed N run a x →
+    (t : ℕ) × (t < length run) × Signs N honest run t a x
+signed-signs N honest run h m =
+    let s = signed-event N run m in
+    let w = writes-made N (s .0) (s .1) (s .4) in (
       length (s .0),
       came-shorter (s .2),
-      record { earlier = s .0; call = s .1; came = s .2; when = refl; by = s .3; answers = s .4 },
+      record { earlier = s .0; step = w .0; came = rw (w .1) at (s .2); when = refl; by = rw (w .1) at (s .3); trusted = h; answers = w .2 },
     )
 
-module _ (N : ℕ) (honest : ℕ → Type 0) (run : List Call) (premise : Premise N honest run) where
-  lists-signed : {t a : ℕ} {r : List ℕ} → honest a → Lists N run t a r → (t′ : ℕ) × (t′ < t) × Signs N run t′ a r
+module _ (N : ℕ) (honest : ℕ → Type 0) (run : List Event) (premise : Premise N honest run) where
+  -- What is signed was made from the counts of an earlier check: from the list that it accepted.
+  signs-from :
+      {t a : ℕ} {x : List ℕ} → Signs N honest run t a x →
+      (t′ : ℕ) ×
+      (t′ ≤ t) ×
+      (1 < count x a → (r : List ℕ) × Lists N run t′ a r × (count r a + 1 ≡ count x a)) ×
+      ((v : ℕ) → v < 16 → (v ≡ a → ⊥) → 0 < count x v → (r : List ℕ) × Lists N run t′ v r × (count r v ≡ count x v))
+  signs-from {t = t} {a = a} {x = x} s =
+      let g = gave-call N (s .earlier) (each-at _ (premise .1) (s .came) (s .step) refl x (s .answers) (rw (s .by) (s .trusted))) in
+      let c : Call = g .1 in
+      let came = came-earlier (s .came) (g .2) in
+      let A = accepted-call N (g .0) c (g .4) in
+      let counted = signs-made s .counted in
+      let user : c .user ≡ a = g .3 ∙ s .by in
+      let own-count : count x a ≡ count (entry (c .list) a) a + 1 =
+      counted a (signs-user s) ∙ (rw user at (A .counts-own ∙ ap (λ (y : List ℕ). count y (c .user) + 1) (sym (A .current-entry))))
+      in (
+        length (g .0),
+        omega (arith, came-shorter (g .2), s .when),
+        λ h. let l = lists-entry came (g .4) a (omega arith) in (l .0, l .1, rw (l .2) (sym own-count)),
+        λ v h n l.
+            let e : count x v ≡ count (entry (c .list) v) v = counted v h ∙ A .counts-other v h (λ q. n (q ∙ user)) in
+            let r = lists-entry came (g .4) v (omega arith) in (r .0, r .1, rw (r .2) (sym e)),
+      )
+
+  lists-signed : {t a : ℕ} {r : List ℕ} → honest a → Lists N run t a r → (t′ : ℕ) × (t′ < t) × Signs N honest run t′ a r
   lists-signed {a = a} {r = r} h l =
       let m : Signed N (l .earlier) a r =
       rw (l .owned, l .is) at
-      (each-at _ premise (l .came) (l .made) (l .answers) (l .place) (l .within) (rw (l .owned) h))
+      (each-at _ (premise .0) (l .came) (l .call) refl (l .counts) (l .answers) (l .place) (l .within) (rw (l .owned) h))
       in
-      let s = signed-signs N (l .earlier) m in (
+      let s = signed-signs N honest (l .earlier) h m in (
         s .0,
         omega (arith, s .1, l .when),
         record {
           earlier = s .2 .earlier;
-          call = s .2 .call;
+          step = s .2 .step;
           came = came-earlier (l .came) (s .2 .came);
           when = s .2 .when;
           by = s .2 .by;
+          trusted = h;
           answers = s .2 .answers;
         },
       )
 
-  clients : Clients count honest (Signs N run) (Lists N run)
-  clients =
-      record {
-        user = λ s. let A = signs-accepts s in omega (arith, A .user, A .users);
-        once = signs-once;
-        made = λ {t} s. (t, omega arith, signs-own s, signs-other s);
-        ordered = lists-ordered;
-        signed = lists-signed;
-      }
+  clients : Clients count honest (Signs N honest run) (Lists N run)
+  clients = record { user = signs-user; once = signs-once; made = signs-from; ordered = lists-ordered; signed = lists-signed }
 
 -- An entry that is x or later, as a record of an accepted list.
 shows-lists :
-    {N : ℕ} {run earlier : List Call} {c : Call} {s : List ℕ} {t a : ℕ} {x : List ℕ} → Came run earlier c → answer N earlier c ≡ accepted s →
-    Signs N run t a x → Shows (c .list) a (own x) → (r : List ℕ) × Lists N run (length earlier) a r × (count x a ≤ count r a)
+    {N : ℕ} {honest : ℕ → Type 0} {run earlier : List Event} {c : Call} {s : List ℕ} {t a : ℕ} {x : List ℕ} → Came run earlier (checks c) →
+    answer N earlier c ≡ accepted s → Signs N honest run t a x → Shows (c .list) a (own x) →
+    (r : List ℕ) × Lists N run (length earlier) a r × (count x a ≤ count r a)
 shows-lists {earlier = earlier} {c = c} {s = s} {a = a} {x = x} m e g h =
     let r : List ℕ = recordAt (c .list) (h .0) in
-    let o : owner x ≡ a = signs-accepts g .owned in (
+    let o : owner x ≡ a = signs-made g .owned ∙ g .by in (
       r,
       record {
         earlier = earlier;
         call = c;
-        made = s;
+        counts = s;
         place = h .0;
         came = m;
         when = refl;
@@ -168,10 +196,11 @@ shows-lists {earlier = earlier} {c = c} {s = s} {a = a} {x = x} m e g h =
 
 pub no-join : NoJoin
 no-join N honest run premise a b x y ha hb sx sy p q =
-    let gx = signed-signs N run sx in
-    let gy = signed-signs N run sy in
+    let gx = signed-signs N honest run ha sx in
+    let gy = signed-signs N honest run hb sy in
     each-intro _ run
-    (λ earlier c m s e showsA showsB.
-    let la = shows-lists m e (gx .2) showsA in
-    let lb = shows-lists m e (gy .2) showsB in
+    (λ earlier e m c is s ok showsA showsB.
+    let came = rw is at m in
+    let la = shows-lists came ok (gx .2) showsA in
+    let lb = shows-lists came ok (gy .2) showsB in
     no-list-joins (clients N honest run premise) ha hb (gx .2) (gy .2) p q (la .1) (la .2) (lb .1) (lb .2))

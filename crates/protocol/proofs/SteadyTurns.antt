@@ -18,11 +18,11 @@ use Rattle.protocol.specs.List.{records}
 use Rattle.protocol.specs.Check.{lastCount}
 use Rattle.protocol.specs.Server.{empty, held, heldOwn, allHeld, listSteps, listed, listing, replaced}
 use Rattle.protocol.specs.History.{called}
-use Rattle.protocol.specs.Turns.{Turn, World, start, fetched, judged, turn, after, Fair}
+use Rattle.protocol.specs.Turns.{Turn, World, start, fetched, judged, madeIn, turn, after, Fair}
 use Rattle.protocol.specs.Steady.{Steady, SteadyTurns}
 use Rattle.protocol.proofs.Held.{count-none, held-empty, empty-length, made-for}
 use Rattle.protocol.proofs.HonestNext.{Ready, made-next, all-listed, next-own}
-use Rattle.protocol.proofs.HonestCheck.{honest-call, checked-next, checked-last, committed-next}
+use Rattle.protocol.proofs.HonestCheck.{honest-call, checked-next, checked-last, created-next, committed-next}
 use Rattle.protocol.proofs.HonestCommit.{now-or-still, steady-next}
 
 pub cond-same : {A : Type 0} (b : Bool) (a : A) → cond b a a ≡ a
@@ -64,15 +64,19 @@ module _
     unfolding judged
     judged-as = rw (fetched-all, r .steady .remembered (t .user) (r .user))
 
-    pub turn-last : heldOwn (w .server) (t .user) ≡ lastCount → (judged N w t ≡ refused 6 0 0) × (turn N w t ≡ refused 6 0 0)
-    unfolding turn
-    turn-last e = let j = judged-as ∙ checked-last r e in (j, rw j)
+    pub turn-last : heldOwn (w .server) (t .user) ≡ lastCount → (madeIn N w t ≡ refused 6 0 0) × (turn N w t ≡ refused 6 0 0)
+    unfolding turn madeIn
+    turn-last e = let j = judged-as ∙ checked-last r e in (rw j, rw j)
+
+    signed-next : (heldOwn (w .server) (t .user) ≡ lastCount → ⊥) → madeIn N w t ≡ accepted (made-next r)
+    unfolding madeIn
+    signed-next n = rw (judged-as ∙ checked-next r n, r .steady .remembered (t .user) (r .user)) (created-next r n)
 
     pub turn-next :
         (heldOwn (w .server) (t .user) ≡ lastCount → ⊥) →
-        (judged N w t ≡ accepted (made-next r)) × (turn N w t ≡ accepted (replaced (w .server) (made-next r)))
+        (madeIn N w t ≡ accepted (made-next r)) × (turn N w t ≡ accepted (replaced (w .server) (made-next r)))
     unfolding turn
-    turn-next n = let j = judged-as ∙ checked-next r n in (j, rw j (committed-next r))
+    turn-next n = let j = signed-next n in (j, rw j (committed-next r))
 
     unchanged : Steady N (w .server) (λ v. cond (eqb (t .user) v) (w .memory v) (w .memory v))
     unchanged =
@@ -87,7 +91,7 @@ module _
 
     steady-after :
         Steady N (left (turn N w t) (w .server))
-        (λ v. cond (eqb (t .user) v) (left (judged N w t) (w .memory v)) (w .memory v))
+        (λ v. cond (eqb (t .user) v) (left (madeIn N w t) (w .memory v)) (w .memory v))
     steady-after =
         elim (ℕ-discrete (heldOwn (w .server) (t .user)) lastCount) [
           | yes e ↦ let a = turn-last e in rw (a .0, a .1) unchanged

@@ -10,7 +10,7 @@ use borrow.Author.Tests.{leb-true, le-leb, ne-eqb}
 use Rattle.layout.specs.Bytes.{four, bytes4}
 use Rattle.layout.proofs.Bytes.{four-bytes4, length-bytes4, four-behind}
 use Rattle.search.proofs.Search.{every-intro, every-at, every-fails}
-use Rattle.protocol.specs.Version.{size, owner, count, counts, structure, countsBefore, countsStrictlyBefore, atOrBefore, strictlyBefore}
+use Rattle.protocol.specs.Version.{size, owner, count, counts, structure, countsBefore, countsStrictlyBefore, atOrBefore}
 
 length-counts : (f : ℕ → ℕ) (v k : ℕ) → length (counts f v k) ≡ 4 * k
 unfolding counts
@@ -53,15 +53,14 @@ module _ (f g : ℕ → ℕ) where
   unfolding countsBefore
   at-most-intro h = every-intro (λ w. leb (f w) (g w)) 0 16 (λ v a b. le-leb _ _ (h v b))
 
+  -- Strictly before: at or before, and less at some user.
+  pub strictly-intro : countsBefore f g ≡ true → (v : ℕ) → v < 16 → f v < g v → countsStrictlyBefore f g ≡ true
+  unfolding countsStrictlyBefore
+  strictly-intro e v l h = rw (e, every-fails (λ w. eqb (f w) (g w)) 0 16 v (omega arith) l (ne-eqb (f v) (g v) (λ q. omega arith)))
+
 module _ (x y : List ℕ) where
   pub before-at : atOrBefore x y ≡ true → (v : ℕ) → v < 16 → count x v ≤ count y v
   before-at = at-most (count x) (count y)
 
   pub before-intro : ((v : ℕ) → v < 16 → count x v ≤ count y v) → atOrBefore x y ≡ true
   before-intro = at-most-intro (count x) (count y)
-
-  -- Strictly before: at or before, and less at some user.
-  pub strictly-intro : atOrBefore x y ≡ true → (v : ℕ) → v < 16 → count x v < count y v → strictlyBefore x y ≡ true
-  unfolding countsStrictlyBefore
-  strictly-intro e v l h =
-      rw (e, every-fails (λ w. eqb (count x w) (count y w)) 0 16 v (omega arith) l (ne-eqb (count x v) (count y v) (λ q. omega arith)))

@@ -1,14 +1,15 @@
--- The client's check of a version structure list and its next structure (the desk's verdict; 000, section 4.2).
+-- The client's check of a version structure list, which gives the counts of its next structure (the desk's verdict; 000, section 4.2).
 use Prim.Native.Nat.{ℕ, _+_, _*_}
 use mathlib.Core.Bool.{Bool, not, cond, _&&_, _||_}
 use mathlib.Core.List.{List, [], _∷_}
 use lib.Dec.{leb, ltb, eqb}
 use lib.ListN.{length, getD}
+use Rattle.layout.specs.Bytes.{values}
 use Rattle.layout.specs.Strings.{same}
 use Rattle.search.specs.Pairs.{everyPair, firstLow, firstHigh}
 use Rattle.refusal.specs.Answer.{Answer, accepted}
 use Rattle.refusal.specs.Order.{Step, unless, unlessEach, inOrder}
-use Rattle.protocol.specs.Version.{size, owner, count, structure, wellFormed, atOrBefore, strictlyBefore}
+use Rattle.protocol.specs.Version.{size, owner, count, wellFormed, countsStrictlyBefore, atOrBefore}
 use Rattle.protocol.specs.List.{records, recordAt, entry, wellPlaced}
 
 -- The largest count, 4,294,967,295.
@@ -20,8 +21,9 @@ lastCount = 4294967295
 abbrev pub nextCount : ℕ → List ℕ → List ℕ → ℕ → ℕ
 nextCount u mem list v = cond (eqb v u) (count mem u + 1) (count (entry list v) v)
 
-unfoldable pub next : ℕ → List ℕ → List ℕ → List ℕ → List ℕ
-next u mem list handle = structure u handle (nextCount u mem list)
+-- The sixteen of them.
+unfoldable pub nextCounts : ℕ → List ℕ → List ℕ → List ℕ
+nextCounts u mem list = values (nextCount u mem list) 0 16
 
 -- The remembered structure is none, or well formed and u's own.
 unfoldable pub remembers : ℕ → ℕ → List ℕ → Bool
@@ -32,44 +34,42 @@ unfoldable pub current : ℕ → List ℕ → List ℕ → Bool
 current u mem list = same (entry list u) mem
 
 -- Entries i and j of the list, i below j: one is at or before the other. Where j is the list's length it means the new structure, and
--- entry i is strictly before it.
-unfoldable pub ordered : List ℕ → List ℕ → ℕ → ℕ → Bool
+-- entry i is strictly before it. The new structure is told by its counts, for nothing else of it is compared.
+unfoldable pub ordered : List ℕ → (ℕ → ℕ) → ℕ → ℕ → Bool
 ordered list new i j =
     cond (ltb j (records list))
     (atOrBefore (recordAt list i) (recordAt list j) || atOrBefore (recordAt list j) (recordAt list i))
-    (strictlyBefore (recordAt list i) new)
+    (countsStrictlyBefore (count (recordAt list i)) new)
 
 -- Refusal 7, for a pair that is not so: "the pair, least i, then least j".
-abbrev pub pairStep : List ℕ → List ℕ → Step
+abbrev pub pairStep : List ℕ → (ℕ → ℕ) → Step
 pairStep list new =
     unless (everyPair (ordered list new) (records list)) 7 (firstLow (ordered list new) (records list))
     (firstHigh (ordered list new) (records list))
 
 -- "Order: 1, 2, 3 for the remembered structure, 3 for the list, 4, 5, 6, 7. One refusal is tried over all records before the next is tried."
--- `room` is the length of the answer's buffer.
-unfoldable pub sizeSteps : ℕ → ℕ → List ℕ → List ℕ → List ℕ → List ℕ → ℕ → List Step
-sizeSteps N u mem list marks handle room =
+unfoldable pub sizeSteps : ℕ → ℕ → List ℕ → List ℕ → List ℕ → List Step
+sizeSteps N u mem list marks =
     unless (leb 1 N) 1 0 0 ∷
     unless (leb N 16) 1 0 0 ∷
     unless (ltb u N) 1 0 0 ∷
     unless (eqb (length mem) 0 || eqb (length mem) size) 2 0 0 ∷
     unless (eqb (size * records list) (length list)) 2 0 0 ∷
-    unless (leb (records list) N) 2 0 0 ∷
-    unless (eqb (length marks) (records list)) 2 0 0 ∷
-    unless (eqb (length handle) 32) 2 0 0 ∷ unless (eqb room size) 2 0 0 ∷ []
+    unless (leb (records list) N) 2 0 0 ∷ unless (eqb (length marks) (records list)) 2 0 0 ∷ []
 
 unfoldable pub formSteps : ℕ → ℕ → List ℕ → List ℕ → List ℕ → List Step
 formSteps N u mem list marks =
     unless (remembers N u mem) 3 16 0 ∷
     unlessEach (wellPlaced N list) (records list) 3 ∷ unlessEach (λ i. eqb (getD marks i 0) 1) (records list) 4 ∷ []
 
-unfoldable pub orderSteps : ℕ → List ℕ → List ℕ → List ℕ → List Step
-orderSteps u mem list new =
+unfoldable pub orderSteps : ℕ → List ℕ → List ℕ → List Step
+orderSteps u mem list =
     unless (current u mem list) 5 0 0 ∷
-    unless (not (eqb (count mem u) lastCount)) 6 0 0 ∷ pairStep list new ∷ []
+    unless (not (eqb (count mem u) lastCount)) 6 0 0 ∷ pairStep list (nextCount u mem list) ∷ []
 
-unfoldable pub check : ℕ → ℕ → List ℕ → List ℕ → List ℕ → List ℕ → ℕ → Answer (List ℕ)
-check N u mem list marks handle room =
-    inOrder (sizeSteps N u mem list marks handle room)
+-- Accepted: the new counts. Nothing is written.
+unfoldable pub check : ℕ → ℕ → List ℕ → List ℕ → List ℕ → Answer (List ℕ)
+check N u mem list marks =
+    inOrder (sizeSteps N u mem list marks)
     (inOrder (formSteps N u mem list marks)
-    (inOrder (orderSteps u mem list (next u mem list handle)) (accepted (next u mem list handle))))
+    (inOrder (orderSteps u mem list) (accepted (nextCounts u mem list))))

@@ -3,9 +3,12 @@ pub mod Version
 pub mod Standing
 pub mod List
 pub mod Check
+pub mod Create
 pub mod Server
 pub mod History
 pub mod Meaning
+pub mod CreateMeaning
+pub mod CreateAfterCheck
 pub mod CommitMeaning
 pub mod NoJoin
 pub mod ForkedRun

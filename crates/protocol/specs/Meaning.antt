@@ -3,12 +3,12 @@ use Prim.Native.Nat.{ℕ, _+_, _-_, _*_, _≤_, _<_}
 use mathlib.Core.List.{List, []}
 use mathlib.Core.Logic.{_⊎_, _↔_}
 use mathlib.Core.Path.{_≡_}
-use lib.ListN.{length, getD, take, drop}
+use lib.ListN.{length, getD}
 use Rattle.search.specs.First.{First, FirstPair}
 use Rattle.refusal.specs.Answer.{accepted, refused}
 use Rattle.protocol.specs.Version.{size, kind, owner, count, own}
 use Rattle.protocol.specs.List.{records, recordAt}
-use Rattle.protocol.specs.Check.{lastCount, next}
+use Rattle.protocol.specs.Check.{lastCount, nextCount, nextCounts}
 use Rattle.protocol.specs.History.{Call, called}
 
 -- "A version structure is well formed if its kind is 1, its owner is below N, its owner's own count is not 0, and counts of
@@ -23,9 +23,12 @@ pub record WellFormed (N : ℕ) (x : List ℕ) : Type 0 where
 abbrev pub AtOrBefore : List ℕ → List ℕ → Type 0
 AtOrBefore x y = (v : ℕ) → v < 16 → count x v ≤ count y v
 
--- "It is strictly before y if also some count differs."
+-- "It is strictly before y if also some count differs." First of a y of which only the counts are known.
+abbrev pub StrictlyBeforeCounts : List ℕ → (ℕ → ℕ) → Type 0
+StrictlyBeforeCounts x new = ((v : ℕ) → v < 16 → count x v ≤ new v) × ((v : ℕ) × (v < 16) × (count x v ≡ new v → ⊥))
+
 abbrev pub StrictlyBefore : List ℕ → List ℕ → Type 0
-StrictlyBefore x y = AtOrBefore x y × ((v : ℕ) × (v < 16) × (count x v ≡ count y v → ⊥))
+StrictlyBefore x y = StrictlyBeforeCounts x (count y)
 
 -- 1: N is 1 to 16, and u is below N.
 abbrev pub Users : ℕ → ℕ → Type 0
@@ -37,8 +40,6 @@ pub record Sizes (N : ℕ) (mem : List ℕ) (c : Call) : Type 0 where
   pub whole : size * records (c .list) ≡ length (c .list)
   pub at-most : records (c .list) ≤ N
   pub one-mark-each : length (c .marks) ≡ records (c .list)
-  pub handle-long : length (c .handle) ≡ 32
-  pub answer-long : c .room ≡ size
 
 -- 3: what is remembered is none, or well formed and u's own.
 abbrev pub Remembered : ℕ → ℕ → List ℕ → Type 0
@@ -63,14 +64,17 @@ abbrev pub NotLast : ℕ → List ℕ → Type 0
 NotLast u mem = count mem u ≡ lastCount → ⊥
 
 -- 7: of the records i and j one is at or before the other; where j is the list's length, record i is strictly before the new structure.
-abbrev pub Ordered : List ℕ → List ℕ → ℕ → ℕ → Type 0
+abbrev pub Ordered : List ℕ → (ℕ → ℕ) → ℕ → ℕ → Type 0
 Ordered list new i j =
     (j < records list → AtOrBefore (recordAt list i) (recordAt list j) ⊎ AtOrBefore (recordAt list j) (recordAt list i)) ×
-    (j ≡ records list → StrictlyBefore (recordAt list i) new)
+    (j ≡ records list → StrictlyBeforeCounts (recordAt list i) new)
 
--- The new structure of a call.
-abbrev pub newOf : List ℕ → Call → List ℕ
-newOf mem c = next (c .user) mem (c .list) (c .handle)
+-- The new structure's counts.
+abbrev pub newOf : List ℕ → Call → ℕ → ℕ
+newOf mem c = nextCount (c .user) mem (c .list)
+
+abbrev pub newCounts : List ℕ → Call → List ℕ
+newCounts mem c = nextCounts (c .user) mem (c .list)
 
 -- The conditions up to each one, in the order in which they are tried.
 abbrev pub ToSizes : ℕ → List ℕ → Call → Type 0
@@ -108,28 +112,25 @@ pub data Why (N : ℕ) (mem : List ℕ) (c : Call) : ℕ → ℕ → ℕ → Typ
   unordered :
       (i j : ℕ) → ToNotLast N mem c → FirstPair (Ordered (c .list) (newOf mem c)) (records (c .list)) i j → Why N mem c 7 i j
 
--- The check accepts exactly where all conditions hold, with the new structure; and it refuses exactly for these reasons.
+-- The check accepts exactly where all conditions hold, with the new counts; and it refuses exactly for these reasons.
 abbrev pub CheckMeans : Type 0
 CheckMeans =
     (N : ℕ) (mem : List ℕ) (c : Call) →
-    ((a : List ℕ) → (called N mem c ≡ accepted a) ↔ (AllConditions N mem c × (a ≡ newOf mem c))) ×
+    ((a : List ℕ) → (called N mem c ≡ accepted a) ↔ (AllConditions N mem c × (a ≡ newCounts mem c))) ×
     ((n p q : ℕ) → (called N mem c ≡ refused n p q) ↔ Why N mem c n p q)
 
--- "The new structure has owner u and that handle; for each other user its count is that user's own count in its list record, or 0; for u
--- it is the remembered own count plus 1, or 1."
-pub record New (mem : List ℕ) (c : Call) (x : List ℕ) : Type 0 where
-  pub long : length x ≡ size
-  pub kind-one : kind x ≡ 1
-  pub owned : owner x ≡ c .user
-  pub handle-held : take 32 (drop 2 x) ≡ c .handle
-  pub one-more : count x (c .user) ≡ count mem (c .user) + 1
-  pub the-first : mem ≡ [] → count x (c .user) ≡ 1
+-- "For each other user its count is that user's own count in its list record, or 0; for u it is the remembered own count plus 1, or 1."
+pub record New (mem : List ℕ) (c : Call) (counts : List ℕ) : Type 0 where
+  pub sixteen : length counts ≡ 16
+  pub one-more : getD counts (c .user) 0 ≡ count mem (c .user) + 1
+  pub the-first : mem ≡ [] → getD counts (c .user) 0 ≡ 1
   pub as-listed :
       (i : ℕ) → i < records (c .list) → (owner (recordAt (c .list) i) ≡ c .user → ⊥) →
-      count x (owner (recordAt (c .list) i)) ≡ own (recordAt (c .list) i)
+      getD counts (owner (recordAt (c .list) i)) 0 ≡ own (recordAt (c .list) i)
   pub absent :
-      (v : ℕ) → v < 16 → (v ≡ c .user → ⊥) → ((i : ℕ) → i < records (c .list) → owner (recordAt (c .list) i) ≡ v → ⊥) → count x v ≡ 0
+      (v : ℕ) → v < 16 → (v ≡ c .user → ⊥) → ((i : ℕ) → i < records (c .list) → owner (recordAt (c .list) i) ≡ v → ⊥) →
+      getD counts v 0 ≡ 0
 
--- What the new structure is, wherever the records are judged well formed: for every accepted call, and wherever it is compared.
+-- What the new counts are, wherever the records are judged well formed: for every accepted call, and wherever they are compared.
 abbrev pub NewMeans : Type 0
-NewMeans = (N : ℕ) (mem : List ℕ) (c : Call) → ToPlaced N mem c → New mem c (newOf mem c)
+NewMeans = (N : ℕ) (mem : List ℕ) (c : Call) → ToPlaced N mem c → New mem c (newCounts mem c)

@@ -13,6 +13,7 @@ use Rattle.protocol.specs.declared.Server.{Server}
 use Rattle.protocol.specs.Version.{size, count}
 use Rattle.protocol.specs.List.{records}
 use Rattle.protocol.specs.Check.{check, lastCount}
+use Rattle.protocol.specs.Create.{create}
 use Rattle.protocol.specs.Server.{made, allHeld, listed, listing, commit}
 
 -- A turn of a user: its handle, and the buffer that it lends to the listing.
@@ -30,7 +31,8 @@ pub record World : Type 0 where
 unfoldable pub start : ℕ → World
 start N = record { server = made N; memory = λ v. [] }
 
--- A turn "is the keeper's listing, a desk call on exactly the records listed, each with mark 1, and a commit of the answer with mark 1."
+-- A turn "is the keeper's listing, a desk call on exactly the records listed, each with mark 1, and a commit of the answer with mark 1." The
+-- desk call is two: the check of these records, and the making step with the counts "of a check of the same turn", this one.
 unfoldable pub fetched : World → Turn → Answer (List ℕ)
 fetched w t =
     andThen (listed (w .server) (length (t .buffer)))
@@ -39,19 +41,22 @@ fetched w t =
 unfoldable pub judged : ℕ → World → Turn → Answer (List ℕ)
 judged N w t =
     andThen (fetched w t)
-    (λ list. check N (t .user) (w .memory (t .user)) list (replicate (records list) 1) (t .handle) size)
+    (λ list. check N (t .user) (w .memory (t .user)) list (replicate (records list) 1))
+
+unfoldable pub madeIn : ℕ → World → Turn → Answer (List ℕ)
+madeIn N w t = andThen (judged N w t) (λ counts. create N (t .user) (w .memory (t .user)) counts (t .handle) size)
 
 -- "A turn is refused if one of its calls is, and ends there."
 unfoldable pub turn : ℕ → World → Turn → Answer Server
-turn N w t = andThen (judged N w t) (λ x. commit (w .server) x 1)
+turn N w t = andThen (madeIn N w t) (λ x. commit (w .server) x 1)
 
--- The client remembers its answer when its call accepts; the server's list is what the commit leaves.
+-- The client remembers what its making step wrote, where that accepts; the server's list is what the commit leaves.
 unfoldable pub after : ℕ → List Turn → World
 after N [] = start N
 after N (t ∷ earlier) =
     record {
       server = left (turn N (after N earlier) t) (after N earlier .server);
-      memory = λ v. cond (eqb (t .user) v) (left (judged N (after N earlier) t) (after N earlier .memory v)) (after N earlier .memory v);
+      memory = λ v. cond (eqb (t .user) v) (left (madeIn N (after N earlier) t) (after N earlier .memory v)) (after N earlier .memory v);
     }
 
 -- "A turn is that of any user below N. The handle is any; no length is one that 2 or 12 refuses."

@@ -6,19 +6,31 @@ use lib.ListN.{replicate}
 use Rattle.refusal.specs.Answer.{Answer, accepted, refused}
 use Rattle.protocol.specs.Version.{size}
 use Rattle.protocol.specs.List.{records}
-use Rattle.protocol.specs.History.{Call, memory}
-use Rattle.protocol.specs.Turns.{Turn, fetched, after}
+use Rattle.protocol.specs.History.{Event, checks, creates, memory}
+use Rattle.protocol.specs.NoJoin.{CheckedCounts}
+use Rattle.protocol.specs.Turns.{Turn, fetched, judged, after}
 
--- A turn adds its "desk call on exactly the records listed, each with mark 1", and none where the listing is refused.
-abbrev pub withCall : Turn → Answer (List ℕ) → List Call → List Call
-withCall t (accepted list) earlier =
-    record { user = t .user; list = list; marks = replicate (records list) 1; handle = t .handle; room = size } ∷ earlier
-withCall t (refused n p q) earlier = earlier
+-- A turn adds its check, "on exactly the records listed, each with mark 1", and none where the listing is refused.
+abbrev pub withCheck : Turn → Answer (List ℕ) → List Event → List Event
+withCheck t (accepted list) earlier = checks (record { user = t .user; list = list; marks = replicate (records list) 1 }) ∷ earlier
+withCheck t (refused n p q) earlier = earlier
 
-unfoldable pub callsOf : ℕ → List Turn → List Call
-callsOf N [] = []
-callsOf N (t ∷ earlier) = withCall t (fetched (after N earlier) t) (callsOf N earlier)
+-- Then its making step, with the counts of that check, and none where the check is refused.
+abbrev pub withMaking : Turn → Answer (List ℕ) → List Event → List Event
+withMaking t (accepted counts) earlier =
+    creates (record { user = t .user; counts = counts; handle = t .handle; room = size }) ∷ earlier
+withMaking t (refused n p q) earlier = earlier
 
--- Each client's memory after the turns is its memory after the run of their calls, for all turns, fair or not.
+unfoldable pub eventsOf : ℕ → List Turn → List Event
+eventsOf N [] = []
+eventsOf N (t ∷ earlier) =
+    withMaking t (judged N (after N earlier) t) (withCheck t (fetched (after N earlier) t) (eventsOf N earlier))
+
+-- Each client's memory after the turns is its memory after the run of their checks and making steps, for all turns, fair or not.
 abbrev pub TurnsRun : Type 0
-TurnsRun = (N : ℕ) (turns : List Turn) (v : ℕ) → memory N (callsOf N turns) v ≡ after N turns .memory v
+TurnsRun = (N : ℕ) (turns : List Turn) (v : ℕ) → memory N (eventsOf N turns) v ≡ after N turns .memory v
+
+-- Each making step of it gets counts that an earlier check gave at the same client, that of its turn: the run meets this premise of the first
+-- half, everybody being honest.
+abbrev pub TurnsLinked : Type 0
+TurnsLinked = (N : ℕ) (turns : List Turn) → CheckedCounts N (λ v. Unit) (eventsOf N turns)

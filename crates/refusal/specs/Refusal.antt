@@ -18,6 +18,7 @@ use Rattle.refusal.specs.declared.Refusal.the-variants.{
   NoPlace,
   LastReference,
   NotHeld,
+  NotNext,
 }
 use Rattle.refusal.specs.declared.Given.{Given}
 use Rattle.refusal.specs.declared.Given.the-variants.{Number, Refused as NotGiven}
@@ -40,6 +41,7 @@ refusal NoRoom = refused 12 0 0
 refusal NoPlace = refused 13 0 0
 refusal LastReference = refused 14 0 0
 refusal NotHeld = refused 15 0 0
+refusal NotNext = refused 16 0 0
 
 -- The answer of a call whose result is `a`.
 abbrev pub checked : {A : Type 0} → A → Check → Answer A

@@ -32,19 +32,19 @@ pub test-fits : (b : Bool) (n p q : ℕ) → (b ≡ false → Fits n p q) → Fi
 test-fits true n p q f = tt
 test-fits false n p q f = f refl
 
--- One of the papers' refusals, 1 to 15, with one position at most, up to 16.
-pub small : (n p : ℕ) → (ltb 0 n && (leb n 15 && leb p 16)) ≡ true → Fits n p 0
+-- One of the papers' refusals, 1 to 16, with one position at most, up to 16.
+pub small : (n p : ℕ) → (ltb 0 n && (leb n 16 && leb p 16)) ≡ true → Fits n p 0
 small n p e =
-    let s = both-true (ltb 0 n) (leb n 15 && leb p 16) e in
-    let t = both-true (leb n 15) (leb p 16) (s .1) in
-    let h : (n ≤ 15) × (p ≤ 16) = (leb-true n 15 (t .0), leb-true p 16 (t .1)) in
+    let s = both-true (ltb 0 n) (leb n 16 && leb p 16) e in
+    let t = both-true (leb n 16) (leb p 16) (s .1) in
+    let h : (n ≤ 16) × (p ≤ 16) = (leb-true n 16 (t .0), leb-true p 16 (t .1)) in
     (ltb-true 0 n (s .0), omega (arith, h .0), omega (arith, h .1), omega arith)
 
-pub small-fits : (b : Bool) (n p : ℕ) → (ltb 0 n && (leb n 15 && leb p 16)) ≡ true → FitsStep (unless b n p 0)
+pub small-fits : (b : Bool) (n p : ℕ) → (ltb 0 n && (leb n 16 && leb p 16)) ≡ true → FitsStep (unless b n p 0)
 small-fits b n p e = test-fits b n p 0 (λ f. small n p e)
 
 -- A test over k places refuses at one of them.
-pub each-fits : (t : ℕ → Bool) (k n : ℕ) → k ≤ 2 ^ 24 → 0 < n → n ≤ 15 → FitsStep (unlessEach t k n)
+pub each-fits : (t : ℕ → Bool) (k n : ℕ) → k ≤ 2 ^ 24 → 0 < n → n ≤ 16 → FitsStep (unlessEach t k n)
 each-fits t k n h l m =
     test-fits (every t 0 k) n (find (λ i. not (t i)) 0 k) 0
     (λ e. (l, omega arith, omega (arith, first-found t k e .within), omega arith))

@@ -2,6 +2,7 @@ pub mod AnswerWord
 pub mod At
 pub mod Into
 pub mod Fits
+pub mod Counts
 pub mod ReadProtocol
 pub mod ReadTable
 pub mod ReadChoose

@@ -1,21 +1,25 @@
--- The answers of a client's check and of a server's calls are read back: no position is above 16, and no list has more records.
+-- The answers of a client's check, of its making step and of a server's calls are read back: no position is above 16, and no list has more
+-- records.
 use Prim.Native.Nat.{ℕ, suc, zero, _+_, _*_, _≤_, _<_}
 use mathlib.Core.Bool.{Bool, true, false, cond}
 use mathlib.Core.List.{List, []}
 use mathlib.Core.Path.{refl}
 use native.Mathlib.Omega.{arith}
-use lib.Dec.{leb, eqb}
+use lib.Dec.{leb, ltb, eqb}
 use lib.ListN.{length, drop, length-append, length-take}
 use Rattle.refusal.specs.Answer.{accepted, andThen}
 use Rattle.protocol.specs.Version.{size, owner, count, own, wellFormed, Standing, equal, before, after, apart, standing}
 use Rattle.protocol.specs.List.{records}
-use Rattle.protocol.specs.Check.{check}
-use Rattle.protocol.specs.History.{Call, called}
+use Rattle.protocol.specs.Create.{create}
+use Rattle.protocol.specs.History.{Call, called, Making, created}
+use Rattle.protocol.specs.CreateMeaning as Create
 use Rattle.protocol.specs.Meaning.{ToSizes, Why, users, lengths, remembered, placed, unmarked, not-current, last, unordered}
 use Rattle.protocol.proofs.CheckMeans.{check-means}
+use Rattle.protocol.proofs.CreateMeans.{create-means}
 use Rattle.protocol.specs.Server.{makeSteps, make, empty, slot, held, heldOwn, heldFrom, allHeld, listSteps, listed, follows, replaced, commitSteps, commit}
 use Rattle.protocol.specs.declared.Server.{Server}
 use Rattle.version.specs.Version.{countIn}
+use Rattle.sundr.specs.Check.{roomSteps, checkInto}
 use Rattle.sundr.specs.Compare.{compared, standingNumber}
 use Rattle.sundr.specs.Server.{sizeSteps, serverIn, bytesOf, makeAt, listedAt}
 use Rattle.sundr.specs.Read.{IsRead, IsReadPlain}
@@ -38,12 +42,29 @@ module _ (N : ℕ) (mem : List ℕ) (c : Call) where
       let h = few (w .0 .0 .0 .0 .0) in
       (omega arith, omega arith, omega (arith, f .below, f .within, h), omega (arith, f .within, h))
 
-pub check-read :
-    (N u : ℕ) (mem list marks handle : List ℕ) (room : ℕ) → IsReadPlain (check N u mem list marks handle room)
-check-read N u mem list marks handle room =
-    let c : Call = record { user = u; list = list; marks = marks; handle = handle; room = room } in
+pub check-read : (N u : ℕ) (mem list marks : List ℕ) (room : ℕ) → IsReadPlain (checkInto N u mem list marks room)
+unfolding checkInto roomSteps
+check-read N u mem list marks room =
+    let c : Call = record { user = u; list = list; marks = marks } in
+    in-order-read (λ a. 0) (λ a. 0) (roomSteps N u room) (called N mem c)
+    (small-fits (leb 1 N) 1 0 refl, (small-fits (leb N 16) 1 0 refl, (small-fits (ltb u N) 1 0 refl, (small-fits (eqb room 16) 2 0 refl, tt))))
+    (λ t.
     answer-read (λ a. 0) (λ a. 0) (called N mem c) (λ a e. (omega arith, omega arith))
-    (λ n p q e. why-fits N mem c n p q (check-means N mem c .1 n p q .0 e))
+    (λ n p q e. why-fits N mem c n p q (check-means N mem c .1 n p q .0 e)))
+
+making-fits : (N : ℕ) (mem : List ℕ) (m : Making) (n p q : ℕ) → Create.Why N mem m n p q → Fits n p q
+making-fits N mem m n p q (Create.users f) = small 1 0 refl
+making-fits N mem m n p q (Create.lengths w f) = small 2 0 refl
+making-fits N mem m n p q (Create.remembered w f) = small 3 16 refl
+making-fits N mem m n p q (Create.beyond w f) = small 3 0 refl
+making-fits N mem m n p q (Create.last w f) = small 6 0 refl
+making-fits N mem m n p q (Create.not-next w f) = small 16 0 refl
+
+pub create-read : (N u : ℕ) (mem counts handle : List ℕ) (room : ℕ) → IsReadPlain (create N u mem counts handle room)
+create-read N u mem counts handle room =
+    let m : Making = record { user = u; counts = counts; handle = handle; room = room } in
+    answer-read (λ a. 0) (λ a. 0) (created N mem m) (λ a e. (omega arith, omega arith))
+    (λ n p q e. making-fits N mem m n p q (create-means N mem m .1 n p q .0 e))
 
 number-small : (s : Standing) → standingNumber s < 4
 number-small equal = omega arith

@@ -8,7 +8,7 @@ use lib.ListN.{length}
 use Rattle.refusal.specs.Answer.{Answer, accepted, refused, andThen}
 use Rattle.refusal.specs.Word.{answerWord}
 use Rattle.sha256.specs.Hash.{hash}
-use Rattle.protocol.specs.Check.{check}
+use Rattle.protocol.specs.Create.{create}
 use Rattle.protocol.specs.Server.{commit}
 use Rattle.protocol.specs.declared.Server.{Server}
 use Rattle.itable.specs.Write.{blocksGiven}
@@ -17,6 +17,7 @@ use Rattle.itable.specs.Inode.{Span, blockCheck}
 use Rattle.itable.specs.LargeInode.{largeCheck}
 use Rattle.cache.specs.Choose.{choose}
 use Rattle.store.specs.Calls.{make as makeStore, store as storeBlock, retrieve, Unreferenced, unreference}
+use Rattle.sundr.specs.Check.{checkInto}
 use Rattle.sundr.specs.Compare.{compared, standingNumber}
 use Rattle.sundr.specs.Choose.{partNumber, partLength}
 use Rattle.sundr.specs.Server.{makeAt, listedAt}
@@ -58,7 +59,8 @@ IsReadPlain = IsRead (λ a. 0) (λ a. 0)
 -- those of the contracts in src/.
 pub record AnswersRead : Type 0 where
   pub sha256 : (message : List ℕ) (room : ℕ) → IsReadPlain (hash message room)
-  pub check : (users user : ℕ) (memory list marks handle : List ℕ) (room : ℕ) → IsReadPlain (check users user memory list marks handle room)
+  pub check : (users user : ℕ) (memory list marks : List ℕ) (room : ℕ) → IsReadPlain (checkInto users user memory list marks room)
+  pub create : (users user : ℕ) (memory counts handle : List ℕ) (room : ℕ) → IsReadPlain (create users user memory counts handle room)
   pub compare : (x y : List ℕ) → IsRead standingNumber (λ s. 0) (compared x y)
   pub make : (users : ℕ) (server : List ℕ) → IsReadPlain (makeAt users server)
   pub list : (server : List ℕ) (room : ℕ) → IsRead (λ n. n) (λ n. 0) (listedAt server room)

@@ -9,7 +9,7 @@ use lib.Dec.{leb, eqb}
 use lib.ListN.{length, getD, take, drop, replicate, getD-replicate, List·getD-append, List·getD-eq-default}
 use lib.Seq.{getD-take, getD-drop, getD-append-add, take-length}
 use Rattle.layout.specs.Bytes.{four, values}
-use Rattle.layout.proofs.Values.{getD-values, values-cong}
+use Rattle.layout.proofs.Values.{value-at, values-cong}
 use Rattle.protocol.specs.Version.{size, count, countsBefore, countsStrictlyBefore, atOrBefore, strictlyBefore}
 use Rattle.search.specs.Search.{every}
 use Rattle.search.proofs.Search.{every-cong}
@@ -63,17 +63,24 @@ padded-alike x i h =
           (getD-replicate {A = ℕ} size (length x + j) 0 0 (omega arith))
     ]
 
+pub count-values : (g : ℕ → ℕ) (v : ℕ) → v < 16 → countIn (values g 0 16) v ≡ g v
+count-values g = value-at g 16
+
 pub count-fields : (x : List ℕ) (v : ℕ) → v < 16 → countIn (fields x .counts) v ≡ count x v
 unfolding fields
-count-fields x v h = let e : 0 + v ≡ v = omega arith in getD-values (count x) 0 16 v h ∙ ap (count x) e
+count-fields x = count-values (count x)
 
-module _ (x y : List ℕ) where
-  pub before-fields : countsBefore (countIn (fields x .counts)) (countIn (fields y .counts)) ≡ atOrBefore x y
-  unfolding countsBefore
-  before-fields = every-cong _ _ 0 16 (λ v a b. ap₂ leb (count-fields x v b) (count-fields y v b))
+pub before-fields : (x y : List ℕ) → countsBefore (countIn (fields x .counts)) (countIn (fields y .counts)) ≡ atOrBefore x y
+unfolding countsBefore
+before-fields x y = every-cong _ _ 0 16 (λ v a b. ap₂ leb (count-fields x v b) (count-fields y v b))
 
-  pub strictly-fields : countsStrictlyBefore (countIn (fields x .counts)) (countIn (fields y .counts)) ≡ strictlyBefore x y
-  unfolding countsStrictlyBefore
-  strictly-fields =
-      ap₂ (λ p q. p && not q) before-fields
-      (every-cong _ _ 0 16 (λ v a b. ap₂ eqb (count-fields x v b) (count-fields y v b)))
+pub strictly-values :
+    (x : List ℕ) (g : ℕ → ℕ) → countsStrictlyBefore (countIn (fields x .counts)) (countIn (values g 0 16)) ≡ countsStrictlyBefore (count x) g
+unfolding countsStrictlyBefore countsBefore
+strictly-values x g =
+    ap₂ (λ p q. p && not q) (every-cong _ _ 0 16 (λ v a b. ap₂ leb (count-fields x v b) (count-values g v b)))
+    (every-cong _ _ 0 16 (λ v a b. ap₂ eqb (count-fields x v b) (count-values g v b)))
+
+pub strictly-fields : (x y : List ℕ) → countsStrictlyBefore (countIn (fields x .counts)) (countIn (fields y .counts)) ≡ strictlyBefore x y
+unfolding fields
+strictly-fields x y = strictly-values x (count y)

@@ -2,4 +2,3 @@ pub mod Form
 pub mod Laws
 pub mod Match
 pub mod Number
-pub mod Written

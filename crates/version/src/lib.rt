@@ -1,28 +1,31 @@
-// Version structures: the one place that knows their layout. A record's bytes are read, judged well
-// formed and written, and two structures are compared by their counts. No call knows anything of lists
-// or signatures, and each takes whatever bytes or counts it is given.
+// Version structures: where their parts stand, by which a record is also written. Its bytes are read and
+// judged well formed, by themselves and as what a user remembers, and two structures are compared by their counts.
+// No call knows anything of lists or signatures, and each takes whatever bytes or counts it is given.
 mod sides;
 
 ghost use mathlib.Core.Path.{_≡_};
+ghost use mathlib.Core.Bool.{true};
+ghost use mathlib.Core.Logic.{_⊎_};
 ghost use Prim.Native.Nat.{ℕ, _-_, _<_};
 ghost use lib.Dec.{eqb};
 ghost use lib.ListN.{length, getD};
-ghost use Rattle.layout.specs.Bytes.{values, bytes4, bytesAt};
-ghost use Rattle.protocol.specs.Version.{size, owner as ownerOf, count as countOf, own, counts as countsOf, structure};
-ghost use Rattle.protocol.specs.Version.{wellFormed, standing};
+ghost use Rattle.layout.specs.Bytes.{values, bytesAt};
+ghost use Rattle.protocol.specs.Version.{size, owner as ownerOf, count as countOf, own, wellFormed, standing};
+ghost use Rattle.protocol.specs.Check.{remembers};
+ghost use Rattle.protocol.specs.Meaning.{Users};
 ghost use Rattle.search.specs.Search.{every};
 ghost use Rattle.version.specs.Version.{fields, countIn, standingAs};
 
 // A record's length, and where its kind, owner, i-handle and counts stand.
 pub const SIZE: usize = 98;
 
-const KIND: usize = 0;
+pub const KIND: usize = 0;
 
-const OWNER: usize = 1;
+pub const OWNER: usize = 1;
 
-const HANDLE: usize = 2;
+pub const HANDLE: usize = 2;
 
-const COUNTS: usize = 34;
+pub const COUNTS: usize = 34;
 
 // A version structure: owner, i-handle, and how many operations of each user it counts.
 pub struct Version {
@@ -154,36 +157,37 @@ pub fn well_formed(users: u8, x: &[u8]) -> bool
     zero_from(&x[0..SIZE], users as usize)
 }
 
-// The four big-endian bytes of x.
-fn write_count(x: u32, out: &mut [u8])
-    requires { ⌜ length (now out) ≡ 4 ⌝ }
-    ensures { λ r. ⌜ now (out .exit) ≡ bytes4 x ⌝ }
+// Whether this is the length of no structure or of one.
+pub fn none_or_one(len: usize) -> bool
+    ensures { λ r. ⌜ (r ≡ true → (len ≡ 0) ⊎ (len ≡ size)) × ((len ≡ 0) ⊎ (len ≡ size) → r ≡ true) ⌝ }
 {
-    let b = layout::u32_bytes(x);
-    bytes::copy(&b, out);
-}
-
-fn write_counts(counts: [u32; 16], out: &mut [u8])
-    requires { ⌜ length (now out) ≡ 64 ⌝ }
-    ensures { λ r. ⌜ now (out .exit) ≡ countsOf (countIn counts) 0 16 ⌝ }
-{
-    let mut v = 0;
-    while v < 16 {
-        write_count(counts[v], &mut out[4 * v..4 * v + 4]);
-        v += 1;
+    if len == 0 {
+        return true;
     }
+    len == SIZE
 }
 
-// The record of user `user` with this i-handle and these counts.
-pub fn write(user: u8, handle: [u8; 32], counts: [u32; 16]) -> [u8; SIZE]
-    ensures { λ r. ⌜ r ≡ structure user handle (countIn counts) ⌝ }
+// Whether there is no current structure, or it is well formed and the user's own.
+pub fn remembered(users: u8, user: u8, memory: &[u8]) -> bool
+    ensures { λ r. ⌜ r ≡ remembers users user (now (memory .entry)) ⌝ }
 {
-    let mut record = [0u8; SIZE];
-    record[KIND] = 1;
-    record[OWNER] = user;
-    bytes::copy(&handle, &mut record[HANDLE..COUNTS]);
-    write_counts(counts, &mut record[COUNTS..SIZE]);
-    record
+    if memory.len() == 0 {
+        return true;
+    }
+    if !well_formed(users, memory) {
+        return false;
+    }
+    owner(memory) == user
+}
+
+// Whether `user` is one of `users` users, and there are 1 to 16.
+pub fn is_user(users: u8, user: u8) -> bool
+    ensures { λ r. ⌜ (r ≡ true → Users users user) × (Users users user → r ≡ true) ⌝ }
+{
+    if 16 < users {
+        return false;
+    }
+    user < users
 }
 
 // How the counts of one structure stand to those of another: all are equal; it is strictly before; it

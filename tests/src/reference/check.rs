@@ -1,18 +1,18 @@
-//! A client's check of the server's list, and its next version structure: 01, "The desk's verdict".
+//! A client's check of the server's list: 01, "The desk's verdict", with 02's request h.
 
 use super::version::{Version, RECORD, USERS};
 use super::Refusal;
 
-/// The new version structure, or the first refusal that the order 1, 2, 3, 3, 4, 5, 6, 7 comes to.
+/// The sixteen counts of the new version structure, or the first refusal that the order 1, 2, 3, 3, 4, 5, 6, 7 comes to.
+/// There is room for `counts_len` of them.
 pub fn check(
     users: u8,
     user: u8,
     memory: &[u8],
     list: &[u8],
     marks: &[u8],
-    handle: &[u8],
-    out_len: usize,
-) -> Result<[u8; RECORD], Refusal> {
+    counts_len: usize,
+) -> Result<[u32; USERS], Refusal> {
     if users == 0 || usize::from(users) > USERS || user >= users {
         return Err(Refusal(1, 0, 0));
     }
@@ -21,8 +21,7 @@ pub fn check(
         || list.len() % RECORD != 0
         || n > usize::from(users)
         || marks.len() != n
-        || handle.len() != 32
-        || out_len != RECORD
+        || counts_len != USERS
     {
         return Err(Refusal(2, 0, 0));
     }
@@ -54,7 +53,8 @@ pub fn check(
         counts[usize::from(entry.owner)] = entry.own();
     }
     counts[usize::from(user)] = last + 1;
-    let new = Version::new(user, handle.try_into().unwrap(), counts);
+    // i-handles are not compared: any will do.
+    let new = Version::new(user, [0; 32], counts);
     for i in 0..n {
         for j in i + 1..n {
             if !listed[i].at_or_before(&listed[j]) && !listed[j].at_or_before(&listed[i]) {
@@ -65,5 +65,5 @@ pub fn check(
             return Err(Refusal(7, i as u32, n as u32));
         }
     }
-    Ok(new.write())
+    Ok(counts)
 }

@@ -1,15 +1,27 @@
 //! The desk program's whole output, from its input: 01, "The desk program".
 
 use super::check::check;
-use super::version::{Version, RECORD};
+use super::create::create;
+use super::version::{Version, RECORD, USERS};
 use super::Refusal;
+
+/// A verdict on users, user, memory, list, marks and i-handle: the new version structure, or a refusal.
+pub type Verdict = fn(u8, u8, &[u8], &[u8], &[u8], &[u8]) -> Result<[u8; RECORD], Refusal>;
 
 /// The two lines, or the line `input`.
 pub fn output(input: &[u8]) -> String {
-    said(input).unwrap_or("input\n".to_string())
+    output_by(input, |users, user, memory, list, marks, handle| {
+        let counts = check(users, user, memory, list, marks, USERS)?;
+        create(users, user, memory, &counts, handle, RECORD)
+    })
 }
 
-fn said(input: &[u8]) -> Option<String> {
+/// The same by any verdict.
+pub fn output_by(input: &[u8], verdict: Verdict) -> String {
+    said(input, verdict).unwrap_or("input\n".to_string())
+}
+
+fn said(input: &[u8], verdict: Verdict) -> Option<String> {
     let (head, rest) = input.split_at_checked(35)?;
     let (users, user, handle) = (head[0], head[1], &head[2..34]);
     let (memory, rest) = match head[34] {
@@ -26,7 +38,7 @@ fn said(input: &[u8]) -> Option<String> {
         marks.push(entry[0]);
         list.extend_from_slice(&entry[1..]);
     }
-    let second = match check(users, user, memory, &list, &marks, handle, RECORD) {
+    let second = match verdict(users, user, memory, &list, &marks, handle) {
         Ok(new) => {
             let counts = Version::read(&new).counts;
             let shown: Vec<String> = counts[..usize::from(users)].iter().map(u32::to_string).collect();

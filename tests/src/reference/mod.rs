@@ -3,6 +3,7 @@
 
 pub mod check;
 pub mod choose;
+pub mod create;
 pub mod inode;
 pub mod input;
 pub mod itable;

@@ -1,5 +1,5 @@
--- The stages one after the other: each refusal is handed on as it is, and where all pass the next structure is written.
-use Rattle.client.proofs.Finish.{sizes-refuse, sized, small, forms-refuse, owned, order-refuse, writes}
+-- The stages one after the other: each refusal is handed on as it is, and the third one's answer is the check's.
+use Rattle.client.proofs.Finish.{sizes-refuse, sized, small, forms-refuse, owned, order-answers}
 use borrow.Author.Needs.{needs}
 use Rattle.client.proofs.check.Statement.{statement}
 use Rattle.client.proofs.check.Tie as tie
@@ -14,12 +14,11 @@ enum-told-2 : tie.Need-enum-told-2
 enum-told-2 c = c .match .keys2
 
 returns : tie.Need-returns
-returns c =
-    let s = c .before .before .sizes in sizes-refuse _ _ _ _ _ _ _ (s .result) (s .ensures) (c .before .match .keys2)
+returns c = let s = c .before .before .sizes in sizes-refuse _ _ _ _ _ (s .result) (s .ensures) (c .before .match .keys2)
 
 forms-requires : tie.Need-forms-requires
 forms-requires c κs =
-    let s = c .before .before .sizes in sized _ _ _ _ _ _ _ (s .result) (s .ensures) (c .before .match .keys1) .1 .one-mark-each
+    let s = c .before .before .sizes in sized _ _ _ _ _ (s .result) (s .ensures) (c .before .match .keys1) .1 .one-mark-each
 
 enum-told-3 : tie.Need-enum-told-3
 enum-told-3 c = c .match2 .keys1
@@ -32,7 +31,7 @@ returns-2 c =
     let f = c .before .before in
     let sm = f .before .before in
     let s = sm .before .sizes in
-    forms-refuse _ _ _ _ _ _ _ (s .result) (s .ensures) (sm .match .keys1) (f .forms .result) (f .forms .ensures) (c .before .match2 .keys2)
+    forms-refuse _ _ _ _ _ (s .result) (s .ensures) (sm .match .keys1) (f .forms .result) (f .forms .ensures) (c .before .match2 .keys2)
 
 order-requires : tie.Need-order-requires
 order-requires c κs =
@@ -40,52 +39,22 @@ order-requires c κs =
     let sm = f .before .before in
     let s = sm .before .sizes in
     let k = sm .match .keys1 in
-    let z = small _ _ _ _ _ _ _ (s .result) (s .ensures) k in (
+    let z = small _ _ _ _ _ (s .result) (s .ensures) k in (
       z .0,
       (
-        sized _ _ _ _ _ _ _ (s .result) (s .ensures) k .1 .whole,
-        (z .1, owned _ _ _ _ _ _ _ (s .result) (s .ensures) k (f .forms .result) (f .forms .ensures) (c .before .match2 .keys1)),
+        sized _ _ _ _ _ (s .result) (s .ensures) k .1 .whole,
+        (z .1, owned _ _ _ _ _ (s .result) (s .ensures) k (f .forms .result) (f .forms .ensures) (c .before .match2 .keys1)),
       ),
     )
 
-enum-told-5 : tie.Need-enum-told-5
-enum-told-5 c = c .match3 .keys1
-
-enum-told-6 : tie.Need-enum-told-6
-enum-told-6 c = c .match3 .keys2
-
 returns-3 : tie.Need-returns-3
 returns-3 c =
-    let o = c .before .before in
-    let fm = o .before .before in
+    let fm = c .before .before in
     let f = fm .before in
     let sm = f .before .before in
     let s = sm .before .sizes in
-    order-refuse _ _ _ _ _ _ _ (s .result) (s .ensures) (sm .match .keys1) (f .forms .result) (f .forms .ensures) (fm .match2 .keys1)
-    (o .order .result .answer) (o .order .ensures .0) (c .before .match3 .keys2)
-
-write-requires : tie.Need-write-requires
-write-requires c κs =
-    let o = c .before .before .before .before in
-    let sm = o .before .before .before .before .before in
-    let s = sm .before .sizes in
-    let z = sized _ _ _ _ _ _ _ (s .result) (s .ensures) (sm .match .keys1) .1 in
-    (z .handle-long, z .answer-long)
-
-same-length : tie.Need-same-length
-same-length c = search needs
-
-returns-4 : tie.Need-returns-4
-returns-4 c =
-    let w = c .before .before in
-    let om = w .before .before .before .before in
-    let o = om .before in
-    let fm = o .before .before in
-    let f = fm .before in
-    let sm = f .before .before in
-    let s = sm .before .sizes in
-    writes _ _ _ _ _ _ _ (s .result) (s .ensures) (sm .match .keys1) (f .forms .result) (f .forms .ensures) (fm .match2 .keys1)
-    (o .order .result .answer) (o .order .ensures .0) (om .match3 .keys1) _ _ (o .order .ensures .1) (w .write .ensures)
+    order-answers _ _ _ _ _ (s .result) (s .ensures) (sm .match .keys1) (f .forms .result) (f .forms .ensures) (fm .match2 .keys1) _ _
+    (c .order .ensures)
 
 pub check-spec : {M : Type 1} → statement M
 check-spec =
@@ -100,9 +69,4 @@ check-spec =
     enum-told-4
     returns-2
     order-requires
-    enum-told-5
-    enum-told-6
-    returns-3
-    write-requires
-    same-length
-    returns-4)
+    returns-3)

@@ -106,6 +106,12 @@ enum-told-8 c = search needs
 row-requires-15 : tie.Need-row-requires-15
 row-requires-15 c κs = search needs
 
+enum-told-9 : tie.Need-enum-told-9
+enum-told-9 c = search needs
+
+row-requires-16 : tie.Need-row-requires-16
+row-requires-16 c κs = search needs
+
 returns : tie.Need-returns
 returns c = of-variant (c .row .ensures) (c .before .enum-told .given .1) refl
 
@@ -151,6 +157,9 @@ returns-14 c = of-variant (c .row14 .ensures) (c .before .enum-told7 .given .1) 
 returns-15 : tie.Need-returns-15
 returns-15 c = of-variant (c .row15 .ensures) (c .before .enum-told8 .given .1) refl
 
+returns-16 : tie.Need-returns-16
+returns-16 c = of-variant (c .row16 .ensures) (c .before .enum-told9 .given .1) refl
+
 pub tell-spec : {M : Type 1} → statement M
 tell-spec =
     tie.close
@@ -185,6 +194,8 @@ tell-spec =
     row-requires-14
     enum-told-8
     row-requires-15
+    enum-told-9
+    row-requires-16
     returns
     returns-2
     returns-3
@@ -199,4 +210,5 @@ tell-spec =
     returns-12
     returns-13
     returns-14
-    returns-15)
+    returns-15
+    returns-16)

@@ -1,9 +1,7 @@
--- Two tests, and then the pairs against a structure of the next counts.
-use Prim.Native.Nat.{ℕ}
-use mathlib.Core.Path.{_≡_, _∙_}
+-- Two tests, and then the pairs against a structure of the next counts, which are handed back where these pass.
 use native.Mathlib.Omega.{arith}
 use borrow.Author.Tests.{not-true, not-false}
-use Rattle.client.proofs.Judged.{not-current, last-version, then-pairs, counts-next}
+use Rattle.client.proofs.ThirdStage.{not-current, last-version, values-next, pairs-refuse, pairs-pass}
 use borrow.Author.Needs.{needs}
 use Rattle.client.proofs.order.order.Statement.{statement}
 use Rattle.client.proofs.order.order.Tie as tie
@@ -14,21 +12,14 @@ current-requires c κs = search needs
 count-requires : tie.Need-count-requires
 count-requires c κs = search needs
 
--- A stage that refuses does not pass.
 returns : tie.Need-returns
-returns c = (
-  λ h l. not-current _ _ _ h _ (c .before .before .current .ensures) (not-true _ (c .if1 .taken)),
-  λ e. let z : _≡_ {A = ℕ} 0 1 = cc in absurd (omega arith),
-)
+returns c = not-current _ _ _ _ (c .before .before .current .ensures) (not-true _ (c .if1 .taken))
 
 returns-2 : tie.Need-returns-2
 returns-2 c =
     let listed = c .before in
-    let n = listed .before in (
-      λ h l.
-          last-version _ _ _ h _ (n .before .current .ensures) (not-false _ (listed .if1 .left)) _ (n .count .ensures) (c .if2 .taken),
-      λ e. let z : _≡_ {A = ℕ} 0 1 = cc in absurd (omega arith),
-    )
+    let n = listed .before in
+    last-version _ _ _ _ (n .before .current .ensures) (not-false _ (listed .if1 .left)) _ (n .count .ensures) (c .if2 .taken)
 
 counts-requires : tie.Need-counts-requires
 counts-requires c κs =
@@ -39,17 +30,31 @@ counts-requires c κs =
 pairs-requires : tie.Need-pairs-requires
 pairs-requires c κs = search needs
 
+enum-told : tie.Need-enum-told
+enum-told c = c .match .keys1
+
+enum-told-2 : tie.Need-enum-told-2
+enum-told-2 c = c .match .keys2
+
 returns-3 : tie.Need-returns-3
 returns-3 c =
-    let new = c .before in
+    let p = c .before .before in
+    let new = p .before in
     let less = new .before in
     let listed = less .before in
-    let n = listed .before in (
-      λ h l.
-          then-pairs _ _ _ h _ (n .before .current .ensures) (not-false _ (listed .if1 .left)) _ (n .count .ensures) (less .if2 .left) _
-          (c .pairs .ensures _ (new .counts .ensures ∙ counts-next _ _ _ h l)),
-      λ e. new .counts .ensures,
-    )
+    let n = listed .before in
+    pairs-refuse _ _ _ _ (n .before .current .ensures) (not-false _ (listed .if1 .left)) _ (n .count .ensures) (less .if2 .left) (p .pairs .result)
+    (p .pairs .ensures _ (values-next _ _ _ (new .counts .ensures))) (c .before .match .keys2)
+
+returns-4 : tie.Need-returns-4
+returns-4 c =
+    let p = c .before .before in
+    let new = p .before in
+    let less = new .before in
+    let listed = less .before in
+    let n = listed .before in
+    pairs-pass _ _ _ _ (n .before .current .ensures) (not-false _ (listed .if1 .left)) _ (n .count .ensures) (less .if2 .left) (p .pairs .result)
+    (p .pairs .ensures _ (values-next _ _ _ (new .counts .ensures))) (c .before .match .keys1) _ (new .counts .ensures)
 
 pub order-spec : {M : Type 1} → statement M
 order-spec =
@@ -61,4 +66,7 @@ order-spec =
     returns-2
     counts-requires
     pairs-requires
-    returns-3)
+    enum-told
+    enum-told-2
+    returns-3
+    returns-4)

@@ -2,30 +2,29 @@
 -- The outer invariant: each structure passed is ordered with all after it. The inner one: structure i is ordered with those passed.
 use Prim.Native.Nat.{ℕ, _≤_, _<_, _-_}
 use mathlib.Core.Bool.{true}
-use mathlib.Core.List.{List}
 use mathlib.Core.Logic.{⊎-elim}
 use mathlib.Core.Path.{_≡_, ap, _∙_}
 use native.Mathlib.Omega.{arith}
 use borrow.Author.Count.{below-more}
 use borrow.Author.Needs.{needs}
 use borrow.Author.Tests.{not-true, not-false}
+use Rattle.layout.specs.Bytes.{values}
 use Rattle.search.proofs.Search.{span-more}
 use Rattle.protocol.specs.Check.{ordered}
-use Rattle.version.specs.Version.{fields}
 use Rattle.version.specs.declared.Version.{Version}
 use Rattle.client.proofs.Apart.{apart, together, compared, compared-new}
 use Rattle.client.proofs.order.pairs.Statement.{statement}
 use Rattle.client.proofs.order.pairs.Tie as tie
 
 abbrev Inv-loop : tie.InvT-loop
-Inv-loop list next n structures i j₀ low j = (i < j) × (j ≤ n) × ((new : List ℕ) (m : ℕ) → i < m → m < j → ordered list new i m ≡ true)
+Inv-loop list next n structures i j₀ low j = (i < j) × (j ≤ n) × ((new : ℕ → ℕ) (m : ℕ) → i < m → m < j → ordered list new i m ≡ true)
 
 abbrev μ-loop : tie.MeasureT-loop
 μ-loop list next n structures i j₀ low j = n - j
 
 abbrev Inv-pairs : tie.InvT-pairs
 Inv-pairs list next n structures i₀ j₀ i j =
-    (i ≤ n) × ((new : List ℕ) → next ≡ fields new .counts → (m : ℕ) → m < i → (l : ℕ) → m < l → l ≤ n → ordered list new m l ≡ true)
+    (i ≤ n) × ((new : ℕ → ℕ) → next ≡ values new 0 16 → (m : ℕ) → m < i → (l : ℕ) → m < l → l ≤ n → ordered list new m l ≡ true)
 
 abbrev μ-pairs : tie.MeasureT-pairs
 μ-pairs list next n structures i₀ j₀ i j = n - i
