@@ -32,7 +32,7 @@ unfoldable pub start : ℕ → World
 start N = record { server = made N; memory = λ v. [] }
 
 -- A turn "is the keeper's listing, a desk call on exactly the records listed, each with mark 1, and a commit of the answer with mark 1." The
--- desk call is two: the check of these records, and the making step with the counts "of a check of the same turn", this one.
+-- desk call is two: the check of these records, and the making step with the counts of "a check of the same turn", this one.
 unfoldable pub fetched : World → Turn → Answer (List ℕ)
 fetched w t =
     andThen (listed (w .server) (length (t .buffer)))

@@ -1,5 +1,8 @@
 -- Each refusal is told as it is, with nothing written; where the check passes, the counts are put into the array.
+use mathlib.Core.Path.{_≡_}
+use native.Mathlib.Omega.{arith}
 use borrow.Author.Needs.{needs}
+use lib.ListN.{length}
 use Rattle.refusal.proofs.Words.{gives-word}
 use Rattle.sundr.proofs.Counts.{room-refuses, check-refuses, check-gives}
 use Rattle.sundr.proofs.check.sundr_check_list.Statement.{statement}
@@ -14,7 +17,8 @@ refusal-word-requires c κs = search needs
 returns : tie.Need-returns
 returns c =
     let r = c .before in
-    room-refuses _ _ _ _ _ _ (r .no-room .result) _ _ (r .no-room .ensures _ (r .before .if1 .taken)) (c .refusal-word .ensures)
+    let other : length (r .before .before .before .before .before .before .args .counts .now) ≡ 16 → ⊥ = λ e. omega arith in
+    room-refuses _ _ _ _ _ _ (r .no-room .result) _ _ (r .no-room .ensures _ other) (c .refusal-word .ensures)
 
 check-requires : tie.Need-check-requires
 check-requires c κs = search needs
@@ -32,7 +36,8 @@ returns-2 : tie.Need-returns-2
 returns-2 c =
     let k = c .before .before in
     let j = k .before in
-    let g = check-refuses _ _ _ _ _ _ (j .before .if1 .left) (j .check .result .answer) _ _ (j .check .ensures) (k .match .keys2) in
+    let e : length (j .before .before .before .before .before .before .args .counts .now) ≡ 16 = omega arith in
+    let g = check-refuses _ _ _ _ _ _ e (j .check .result .answer) _ _ (j .check .ensures) (k .match .keys2) in
     (gives-word g (c .check-word .ensures), g .leaves)
 
 put-requires : tie.Need-put-requires
@@ -49,8 +54,9 @@ returns-3 c =
     let p = c .before .before .before in
     let k = p .before .before .before .before in
     let j = k .before in
+    let e : length (j .before .before .before .before .before .before .args .counts .now) ≡ 16 = omega arith in
     let g =
-    check-gives _ _ _ _ _ _ (j .before .if1 .left) (j .check .result .answer) _ _ (j .check .ensures) _ _ (k .match .keys1) (p .put .ensures)
+    check-gives _ _ _ _ _ _ e (j .check .result .answer) _ _ (j .check .ensures) _ _ (k .match .keys1) (p .put .ensures)
     in
     (gives-word g (c .check-word2 .ensures), g .leaves)
 
