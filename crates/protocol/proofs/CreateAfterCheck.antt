@@ -1,7 +1,6 @@
 -- The making step takes what a check gave: the conditions that both judge hold, no entry is of a user beyond N, and the own count is the
 -- next. What it accepts is well formed, since these are just the conditions of that.
 use Prim.Native.Nat.{ℕ}
-use mathlib.Core.List.{List}
 use mathlib.Core.Path.{_≡_, refl, ap, _∙_}
 use native.Mathlib.Omega.{arith}
 use lib.ListN.{getD, replicate, getD-replicate}
