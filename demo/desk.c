@@ -20,18 +20,18 @@ static void due_lines(uint8_t user, uint64_t answer, const uint32_t *counts, cha
 			sundr_refusal(answer), sundr_first(answer), sundr_second(answer));
 }
 
-/* A check as the desk program's input, from the start of a file. */
+/* A check as the desk program's input, from the start of a file. It has the structure of a memory file, and no state. */
 static FILE *input(const struct client *client, const struct sent *sent)
 {
 	FILE *file = tmpfile();
-	size_t i;
+	size_t i, remembered = client->file[1] != SUNDR_STATE_NONE;
 
 	must(file != NULL, "a file for the desk program's input");
 	fputc(USERS, file);
 	fputc(client->user, file);
 	fwrite(client->i_handle, 1, SUNDR_HANDLE_LEN, file);
-	fputc(client->memory_len != 0, file);
-	fwrite(client->memory, 1, client->memory_len, file);
+	fputc((int)remembered, file);
+	fwrite(last_of(client), SUNDR_VERSION_LEN, remembered, file);
 	for (i = 0; i < sent->records; i++) {
 		fputc(sent->marks[i], file);
 		fwrite(sent->list + SUNDR_VERSION_LEN * i, 1, SUNDR_VERSION_LEN, file);

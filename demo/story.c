@@ -68,29 +68,44 @@ static int is_sent_list(const struct client *client, const struct sundr_server *
 	return 1;
 }
 
+/* The client's first memory file: it remembers nothing. */
+static void start(struct client *client)
+{
+	must_accept(sundr_memory_over(USERS, client->user, NULL, 0, client->file, sizeof client->file), "a first file");
+}
+
+/* What the last check gave that was neither accepted nor refused: the structure to be sent again. */
+static uint8_t again[SUNDR_VERSION_LEN];
+
 /* The client's check of a list. Accepted, it gives the counts of the client's next structure, and alters no memory. */
 static uint64_t check(const struct client *client, const struct sent *sent, uint32_t *counts, int shown)
 {
-	uint64_t answer = sundr_check_list(USERS, client->user, client->memory, client->memory_len,
-		sent->list, SUNDR_VERSION_LEN * sent->records, sent->marks, sent->records, counts, SUNDR_MAX_USERS);
+	uint64_t answer = sundr_memory_check(USERS, client->user, client->file, sizeof client->file,
+		sent->list, SUNDR_VERSION_LEN * sent->records, sent->marks, sent->records,
+		counts, SUNDR_MAX_USERS, again, sizeof again);
 
 	if (shown)
 		show_desk(client, sent, answer, counts);
 	return answer;
 }
 
-/* The making step, from the counts of a check. Accepted, the client signs its new structure and remembers it. */
+/* The making step, from the counts of a check. Accepted, the client remembers its new structure, as pending, and signs it. */
 static uint64_t create(struct client *client, const uint32_t *counts)
 {
 	uint8_t next[SUNDR_VERSION_LEN];
-	uint64_t answer = sundr_create(USERS, client->user, client->memory, client->memory_len,
+	uint64_t answer = sundr_memory_create(USERS, client->user, client->file, sizeof client->file,
 		counts, SUNDR_MAX_USERS, client->i_handle, SUNDR_HANDLE_LEN, next, sizeof next);
 
-	if (sundr_refusal(answer) == SUNDR_ACCEPTED) {
-		memcpy(client->memory, next, sizeof next);
-		client->memory_len = sizeof next;
-	}
+	if (sundr_refusal(answer) == SUNDR_ACCEPTED)
+		answer = sundr_memory_pend(USERS, client->user, next, sizeof next, client->file, sizeof client->file);
 	return answer;
+}
+
+/* A commit that the server takes: the client's memory is marked as sent. */
+static void send_structure(struct client *client, struct sundr_server *server, const char *what)
+{
+	must_accept(sundr_server_commit(server, last_of(client), SUNDR_VERSION_LEN, 1), what);
+	must_accept(sundr_memory_sent(USERS, client->user, client->file, sizeof client->file), "a mark");
 }
 
 /* A turn that is accepted, at a server that takes it; gives the list that was checked. */
@@ -102,7 +117,7 @@ static struct sent turn(struct client *client, struct sundr_server *server, int 
 	must(is_sent_list(client, server, &sent), "a turn's list");
 	must_accept(check(client, &sent, counts, shown), "a turn's check");
 	must_accept(create(client, counts), "a turn's making step");
-	must_accept(sundr_server_commit(server, client->memory, client->memory_len, 1), "a turn's commit");
+	send_structure(client, server, "a turn's commit");
 	return sent;
 }
 
@@ -239,7 +254,7 @@ static void fetch(struct client *desk, struct sundr_server *server, const char *
 
 static void legend(void)
 {
-	tell("\nSUNDR: files on a server that nobody has to trust. A story in twelve scenes.\n");
+	tell("\nSUNDR: files on a server that nobody has to trust. A story in thirteen scenes.\n");
 	tell("  user 0, the maintainer     keeps a driver tree on the server: %d files, of which file %d is",
 		FILES, CHANNEL_TABLE);
 	tell("                             the channel table, the radio channels that a board may use, and");
@@ -317,13 +332,13 @@ static void the_old_disk(struct client *desk, const struct sundr_server *old_dis
 	tell("\n2. The old disk\n");
 	tell("The host restores the disk as it was before the correction. The release desk, whose last structure");
 	tell("counts %u %u, fetches again, and is sent the list of the old disk:",
-		sundr_count(desk->memory, MAINTAINER), sundr_count(desk->memory, RELEASE_DESK));
+		sundr_count(last_of(desk), MAINTAINER), sundr_count(last_of(desk), RELEASE_DESK));
 	tell_list(&sent);
 	answer = check(desk, &sent, counts, 1);
 	must_refuse(answer, SUNDR_NOT_CURRENT, 0, 0);
 	tell_refusal(answer);
 	tell("The release desk's record in that list is older than its last one, and not forked:");
-	tell_standing(sent.list + SUNDR_VERSION_LEN, desk->memory, SUNDR_BEFORE, "before");
+	tell_standing(sent.list + SUNDR_VERSION_LEN, last_of(desk), SUNDR_BEFORE, "before");
 	tell("The release desk has signed that it saw the correction, and the list is from before that. So no");
 	tell("board is built with the old table. Once, without this check, four thousand were.");
 }
@@ -347,13 +362,13 @@ static void the_fork(struct client *maintainer, struct client *desk, struct sund
 	tell("From one side nobody can see this: each list goes on from what its reader signed. But it is for");
 	tell("good. The server sends the release desk the last structures of both:");
 	sent = send_list(server);
-	memcpy(sent.list + SUNDR_VERSION_LEN, desk->memory, sizeof desk->memory);
+	memcpy(sent.list + SUNDR_VERSION_LEN, last_of(desk), SUNDR_VERSION_LEN);
 	tell_list(&sent);
 	answer = check(desk, &sent, counts, 1);
 	must_refuse(answer, SUNDR_UNORDERED, 0, 1);
 	tell_refusal(answer);
 	tell("Neither is merely older than the other, as their counts show:");
-	tell_standing(maintainers_record(&sent), desk->memory, SUNDR_APART, "apart from");
+	tell_standing(maintainers_record(&sent), last_of(desk), SUNDR_APART, "apart from");
 	tell("Each record lacks operations that the other counts. It is proved that no client ever accepts a");
 	tell("list with both, or with later ones, as long as no signature is forged. So the server has to keep");
 	tell("the two users apart for good, and one telephone call between them shows it.");
@@ -367,7 +382,8 @@ static void honest_turns(struct client *maintainer, struct client *desk, struct 
 	tell("\n4. A thousand honest turns\n");
 	tell("The same two users, from the start, at an honest server.");
 	must_accept(sundr_server_make(USERS, server), "an empty server");
-	maintainer->memory_len = desk->memory_len = 0;
+	start(maintainer);
+	start(desk);
 	upload_tree("channels 1 to 13", maintainer->i_handle);
 	for (i = 0; i < 1000; i++)
 		if (i % 3 < 2)
@@ -376,7 +392,7 @@ static void honest_turns(struct client *maintainer, struct client *desk, struct 
 			fetch(desk, server, "channels 1 to 13", QUIETLY);
 	last = send_list(server);
 	tell("%d turns, and none is refused: %u of the maintainer and %u of the release desk.", i,
-		sundr_count(maintainers_record(&last), MAINTAINER), sundr_count(desk->memory, RELEASE_DESK));
+		sundr_count(maintainers_record(&last), MAINTAINER), sundr_count(last_of(desk), RELEASE_DESK));
 }
 
 static void from_list_to_text(struct client *desk, struct sundr_server *server)
@@ -769,9 +785,16 @@ static void touch(struct client *maintainer, const uint32_t *counts)
 	uint32_t made[SUNDR_MAX_USERS];
 
 	must_accept(create(maintainer, counts), "what a touch makes");
-	sundr_counts(maintainer->memory, made);
+	sundr_counts(last_of(maintainer), made);
 	must(memcmp(made, counts, sizeof made) == 0, "the counts that the check gave");
 	tell("  touch          accepted   the new structure counts %u %u", made[MAINTAINER], made[RELEASE_DESK]);
+}
+
+/* The third answer of a check. The desk program has no part in it: its input has no state, and it takes all as sent. */
+static void tell_again(uint64_t answer)
+{
+	must(answer == SUNDR_SEND_AGAIN, "send again");
+	tell("  check          %d        %s", sundr_refusal(answer), sundr_refusal_text(sundr_refusal(answer)));
 }
 
 /* What comes of a touch after another user's turn. The memory and the server are copies. */
@@ -784,7 +807,7 @@ static void touch_late(struct client maintainer, struct sundr_server server, con
 	uint64_t answer;
 
 	touch(&maintainer, counts);
-	answer = sundr_server_commit(&server, maintainer.memory, maintainer.memory_len, 1);
+	answer = sundr_server_commit(&server, last_of(&maintainer), SUNDR_VERSION_LEN, 1);
 	must_refuse(answer, SUNDR_UNORDERED, RELEASE_DESK, 0);
 	must(memcmp(&server, &before, sizeof server) == 0, "a server that takes nothing");
 	tell("  commit         %d at %u     %s", sundr_refusal(answer), sundr_first(answer),
@@ -795,9 +818,10 @@ static void touch_late(struct client maintainer, struct sundr_server server, con
 	tell("The server refuses it at user 1, whose record counts %u %u: the new structure lacks that fetch, and is",
 		sundr_count(desks, MAINTAINER), sundr_count(desks, RELEASE_DESK));
 	tell("never taken. But it is signed and remembered, and what is signed cannot be taken back. No list of an");
-	tell("honest server has it: the maintainer is locked out.");
+	tell("honest server has it, and the maintainer is locked out: a check says to send it again, in vain.");
 	sent = send_list(&server);
-	must_refuse(check(&maintainer, &sent, next, 1), SUNDR_NOT_CURRENT, 0, 0);
+	tell_again(check(&maintainer, &sent, next, 0));
+	must_refuse(sundr_server_commit(&server, again, sizeof again, 1), SUNDR_UNORDERED, RELEASE_DESK, 0);
 }
 
 /* The maintainer's turn with the card. Somebody who comes between the check and the touch has to be turned away. */
@@ -813,7 +837,7 @@ static void card_turn(struct client *maintainer, struct sundr_server *server, co
 		tell("  user %u comes   turned away: the lock is user %u's", comes->user, lock_of);
 	}
 	touch(maintainer, counts);
-	must_accept(sundr_server_commit(server, maintainer->memory, maintainer->memory_len, 1), "the commit after a touch");
+	send_structure(maintainer, server, "the commit after a touch");
 	tell("  commit         accepted");
 }
 
@@ -827,7 +851,8 @@ static void the_card(struct client *maintainer, struct client *desk, struct sund
 	tell("are two calls: the check tells what a list is worth and gives the next counts; the making step makes");
 	tell("the new structure of them, once the card is touched. Both users start again, at an honest server.");
 	must_accept(sundr_server_make(USERS, server), "an empty server");
-	maintainer->memory_len = desk->memory_len = 0;
+	start(maintainer);
+	start(desk);
 	commit(maintainer, server, "channels 1 to 11");
 	tell("The release desk fetches it.");
 	fetch(desk, server, "channels 1 to 11", SHOWN);
@@ -853,6 +878,49 @@ static void the_card(struct client *maintainer, struct client *desk, struct sund
 	fetch(desk, server, "channels 1 to 14", SHOWN);
 }
 
+/* What the maintainer's disk says. */
+static void tell_file(const struct client *maintainer, uint8_t state, const char *words)
+{
+	must(maintainer->file[1] == state, "the file's state");
+	tell("  memory file    %-10s the structure counts %u %u", words,
+		sundr_count(last_of(maintainer), MAINTAINER), sundr_count(last_of(maintainer), RELEASE_DESK));
+}
+
+static void the_power_cut(struct client *maintainer, struct client *desk, struct sundr_server *server)
+{
+	/* What is left of the maintainer: the file on the disk. */
+	struct client left = { .user = MAINTAINER };
+	struct sent sent = send_list(server);
+	uint32_t counts[SUNDR_MAX_USERS], next[SUNDR_MAX_USERS];
+	uint64_t answer;
+
+	tell("\n13. The power cut\n");
+	tell("The maintainer commits once more. The check accepts, the structure is made, and it is written to the");
+	tell("maintainer's memory file, as pending: that comes before it is signed and before anything is sent.");
+	upload_tree("channels 1 to 14, 36 to 48", maintainer->i_handle);
+	must_accept(check(maintainer, &sent, counts, 1), "the check before the cut");
+	must_accept(create(maintainer, counts), "what is made before the cut");
+	tell_file(maintainer, SUNDR_STATE_PENDING, "pending");
+	tell("Then the machine dies, before it sends. All that is left is the file. Started again, the maintainer");
+	tell("cannot know whether the structure was sent, gets the list, and checks it:");
+	memcpy(left.file, maintainer->file, sizeof left.file);
+	*maintainer = left;
+	sent = send_list(server);
+	tell_again(check(maintainer, &sent, next, 0));
+	must(memcmp(again, last_of(maintainer), sizeof again) == 0, "the same bytes");
+	answer = create(maintainer, counts);
+	must_refuse(answer, SUNDR_NOT_NEXT, 0, 0);
+	tell("  making step    %d         %s", sundr_refusal(answer), sundr_refusal_text(sundr_refusal(answer)));
+	tell("Nothing else can be made of that count, so nobody ever sees two structures with it. No list is");
+	tell("accepted by this answer: the same bytes are signed and sent, and the server takes them.");
+	send_structure(maintainer, server, "the same bytes, sent again");
+	tell("  commit         accepted");
+	tell_file(maintainer, SUNDR_STATE_SENT, "sent");
+	tell("The release desk fetches, and the maintainer's next check goes on.");
+	fetch(desk, server, "channels 1 to 14, 36 to 48", SHOWN);
+	commit(maintainer, server, "channels 1 to 14, 36 to 64");
+}
+
 int main(int argc, char **argv)
 {
 	struct client maintainer = { .user = MAINTAINER };
@@ -861,6 +929,8 @@ int main(int argc, char **argv)
 
 	must(argc == 2, "usage: story PATH_OF_DESK");
 	desk_program = argv[1];
+	start(&maintainer);
+	start(&desk);
 	upload_nothing(desk.i_handle);
 	must_accept(sundr_server_make(USERS, &server), "an empty server");
 
@@ -877,6 +947,7 @@ int main(int argc, char **argv)
 	the_firmware_image(&desk, &server, &old_disk);
 	room_given_back(&maintainer, &desk, &server);
 	the_card(&maintainer, &desk, &server);
+	the_power_cut(&maintainer, &desk, &server);
 	tell("\nAll came out as told, in the library and, where a bar stands, in the desk program too.");
 	return 0;
 }

@@ -26,14 +26,19 @@ struct cache {
 	size_t block_len;
 };
 
-/* A client: its user, the i-handle of its own files, the structure it signed last, and the file it read last. */
+/* A client: its user, the i-handle of its own files, its memory file, and the file it read last. */
 struct client {
 	uint8_t user;
 	uint8_t i_handle[SUNDR_HANDLE_LEN];
-	uint8_t memory[SUNDR_VERSION_LEN];
-	size_t memory_len;
+	uint8_t file[SUNDR_MEMORY_LEN];
 	struct cache cache;
 };
+
+/* The structure that it made last, where there is one. */
+static inline const uint8_t *last_of(const struct client *client)
+{
+	return client->file + 2;
+}
 
 /* A server's list as it is sent: the records, and a good mark for each. */
 struct sent {

@@ -4,7 +4,7 @@
  *     table FOLDER FILE INDEX [SERVED]
  *
  * The writer makes the i-table of the files in FOLDER, and the i-handle, which is printed. The
- * reader has that i-handle, out of a record of a list that sundr_check_list() accepted, and the
+ * reader has that i-handle, out of a record of a list that sundr_memory_check() accepted, and the
  * file's name. All else comes from the server, which nobody trusts: the path, the inode and the
  * block of that index. The server has the same folder; or it has SERVED, another one, and is
  * refused.

@@ -17,12 +17,14 @@
  *
  * Answers. Each call answers one number of 64 bits:
  *
- *     bits  0 to  7   0 if the call accepted, else the number of the refusal (1 to 16)
+ *     bits  0 to  7   0 if the call accepted, else the number of the refusal (1 to 17); 255 is
+ *                     neither: "send again", which sundr_memory_check() alone answers
  *     bits  8 to 31   accepted: the first result;   refused: the first position
  *     bits 32 to 63   accepted: the second result;  refused: the second position
  *
- * A result or a position that a call's comment does not name is 0. A call that refuses has
- * not altered one lent byte.
+ * A result or a position that a call's comment does not name is 0; at "send again" both are. A
+ * call that refuses has not altered one lent byte, and one that answers "send again" none but
+ * those of the buffer that it has for that.
  *
  * Stack. The bytes that a call takes, with what it takes to call it, as make bench measures them
  * (x86-64, accepted, with the most users, questions or held places; what is refused was not seen to
@@ -32,13 +34,15 @@
  *
  *     sundr_sha256             560        sundr_table_write      1,328
  *     sundr_compare              8        sundr_lookup             880
- *     sundr_check_list       2,228        sundr_lookup_many      1,216
- *     sundr_create             120        sundr_block_check        672
- *     sundr_server_make_at      24        sundr_large_block_check  720
- *     sundr_server_list_at   1,800        sundr_block_choose       656
- *     sundr_server_commit      612        sundr_retrieve           736
- *     sundr_store_make          24        sundr_unreference        720
- *     sundr_store              800
+ *     sundr_memory_check     2,244        sundr_lookup_many      1,216
+ *     sundr_memory_create      104        sundr_block_check        672
+ *     sundr_memory_pend         88        sundr_large_block_check  720
+ *     sundr_memory_sent         88        sundr_block_choose       656
+ *     sundr_memory_over        184        sundr_store_make          24
+ *     sundr_memory_back        104        sundr_store              800
+ *     sundr_server_make_at      24        sundr_retrieve           736
+ *     sundr_server_list_at   1,800        sundr_unreference        720
+ *     sundr_server_commit      612
  */
 #ifndef SUNDR_H
 #define SUNDR_H
@@ -51,9 +55,9 @@ extern "C" {
 #endif
 
 /* The version of the library that this header belongs to. */
-#define SUNDR_VERSION "0.11.0"
+#define SUNDR_VERSION "0.12.0"
 #define SUNDR_VERSION_MAJOR 0
-#define SUNDR_VERSION_MINOR 11
+#define SUNDR_VERSION_MINOR 12
 #define SUNDR_VERSION_PATCH 0
 
 /* The numbers in bits 0 to 7 of an answer. */
@@ -61,7 +65,7 @@ enum sundr_refusal_number {
 	SUNDR_ACCEPTED = 0,
 	SUNDR_USERS = 1,           /* the number of users is not 1 to 16, or there is no such user */
 	SUNDR_LENGTH = 2,          /* a length is not the stated one */
-	SUNDR_MALFORMED = 3,       /* a record, the order of owners, a count, a block, an inode or a place is malformed */
+	SUNDR_MALFORMED = 3,       /* a record, owners' order, memory file, count, block, inode or place is malformed */
 	SUNDR_UNSIGNED = 4,        /* a signature mark is not 1 */
 	SUNDR_NOT_CURRENT = 5,     /* the own version is not the current one */
 	SUNDR_LAST_VERSION = 6,    /* the own version number is the last there is */
@@ -74,10 +78,14 @@ enum sundr_refusal_number {
 	SUNDR_NO_PLACE = 13,       /* no place of the store is free, and one is needed */
 	SUNDR_LAST_REFERENCE = 14, /* the user's count of the block is the last there is */
 	SUNDR_NOT_HELD = 15,       /* no place of the store holds the hash */
-	SUNDR_NOT_NEXT = 16        /* the counts are not those of the user's next version */
+	SUNDR_NOT_NEXT = 16,       /* the counts are not those of the user's next version */
+	SUNDR_PENDING = 17,        /* a memory file is pending, and does not move back */
+
+	/* Neither a refusal nor an acceptance: the pending version is to be sent again, and no list is accepted. */
+	SUNDR_SEND_AGAIN = 255
 };
 
-/* The refusal in an answer, SUNDR_ACCEPTED if there is none. */
+/* The refusal in an answer, SUNDR_ACCEPTED if there is none; or SUNDR_SEND_AGAIN, which is none either. */
 static inline enum sundr_refusal_number sundr_refusal(uint64_t answer)
 {
 	return (enum sundr_refusal_number)(answer & 0xff);
@@ -96,8 +104,8 @@ static inline uint32_t sundr_second(uint64_t answer)
 }
 
 /*
- * A sentence for a refusal's number, to be shown to the user of a client. A server that refuses
- * a commit reads 5 and 7 as sundr_server_commit() has them.
+ * A sentence for a refusal's number, to be shown to the user of a client, and for SUNDR_SEND_AGAIN.
+ * A server that refuses a commit reads 5 and 7 as sundr_server_commit() has them.
  */
 static inline const char *sundr_refusal_text(unsigned number)
 {
@@ -109,7 +117,7 @@ static inline const char *sundr_refusal_text(unsigned number)
 	case SUNDR_LENGTH:
 		return "a length is not the one that is due: cut off, or too long";
 	case SUNDR_MALFORMED:
-		return "a record, the order of records, a count, a block, an inode or a place of the store is malformed";
+		return "a record, the order of records, a memory file, a count, a block, an inode or a place is malformed";
 	case SUNDR_UNSIGNED:
 		return "a record's signature is not good";
 	case SUNDR_NOT_CURRENT:
@@ -136,6 +144,10 @@ static inline const char *sundr_refusal_text(unsigned number)
 		return "the store holds no block of this hash";
 	case SUNDR_NOT_NEXT:
 		return "these counts are not your next version's: used before, or of no accepted check";
+	case SUNDR_PENDING:
+		return "your last version is pending: it may not have reached the server, and does not move back";
+	case SUNDR_SEND_AGAIN:
+		return "the list does not show your last version: send the same bytes again";
 	default:
 		return "not a refusal of this version of the library";
 	}
@@ -168,7 +180,7 @@ uint64_t sundr_sha256(const uint8_t *message, size_t message_len,
  * version structure list (VSL) is such records end to end.
  *
  * What a version structure says is worth something once a check has accepted it: read the records
- * of a list after sundr_check_list() accepted the list, and not before, unless it is to tell, by
+ * of a list after sundr_memory_check() accepted the list, and not before, unless it is to tell, by
  * sundr_compare(), why the list was refused.
  */
 
@@ -227,89 +239,230 @@ enum sundr_standing {
 uint64_t sundr_compare(const uint32_t x[SUNDR_MAX_USERS], const uint32_t y[SUNDR_MAX_USERS]);
 
 /*
- * The first position of a refusal of sundr_check_list() or sundr_create() that means memory: no
+ * The bytes of a memory file; its states; and the first position of a refusal that means memory: no
  * record of the list has it, and no count.
  */
+#define SUNDR_MEMORY_LEN 100
+#define SUNDR_STATE_SENT 0
+#define SUNDR_STATE_PENDING 1
+#define SUNDR_STATE_NONE 2
 #define SUNDR_MEMORY_POSITION 16
 
 /*
- * sundr_check_list: a client's check of the server's version structure list, and the counts of its
+ * A memory file, 100 bytes: the version structure that a client made last, and whether the server
+ * has it. The client has it on its disk, and lends its bytes to the six calls below:
+ *
+ *     byte  0         7
+ *     byte  1         the state:
+ *                         SUNDR_STATE_SENT      the server has accepted the structure
+ *                         SUNDR_STATE_PENDING   it may have left the client, or not
+ *                         SUNDR_STATE_NONE      there is none yet
+ *     bytes 2 to 99   the structure, 98 bytes; all 0 in state none
+ *
+ * It is a user's file if its first byte is 7, and either the state is none and all behind it is 0, or
+ * the state is sent or pending and the structure is well formed and of that user. What a file
+ * remembers is the structure, in state none nothing. A client's first file is what sundr_memory_over()
+ * writes of no bytes.
+ *
+ * A turn: get the server's list and check it (sundr_memory_check()); make the next structure
+ * (sundr_memory_create()); write the file of it (sundr_memory_pend()), onto the disk; sign the
+ * structure, and send it; and once the server has accepted it, mark the file (sundr_memory_sent()).
+ *
+ * What the caller owes. A client that is cut off at any moment, by a power failure say, never signs
+ * two different structures of one count, as long as it keeps to this:
+ *
+ *   - What was made is written as pending (sundr_memory_pend(), and onto the disk) before any other of
+ *     these calls, and before anything of it leaves the client, its signature too. The making step had
+ *     the file as it stands on the disk, and not a copy from earlier. What was made and did not come to
+ *     be written is thrown away: nobody signs it.
+ *   - The file is marked as sent only after the server's answer: that it accepted the commit, or a list
+ *     that has the structure and that the check accepted. It is the file as it stands that is marked,
+ *     read again from the disk: an older copy would bring back an older structure.
+ *   - The file is replaced whole, so that it is always the old one or the new one: write a new file
+ *     beside it, fsync() it, rename() it to the file's name, and fsync() the folder. A new file that
+ *     was left behind by a cut is never read.
+ *   - A client that starts fsync()s the folder of its file before it sends anything. It may have been
+ *     killed between the rename() and the fsync() of the folder: then it finds the new file, and a power
+ *     failure after the sending could still bring the old one back.
+ *   - One desk, one file, one process at a time. No second desk of this user has it, and none of its
+ *     backups is put back.
+ *
+ * Send again. A client that was cut off does not know whether its structure reached the server. It
+ * starts over, with a check. If the list has the structure, all is as if it were marked as sent. If
+ * the list has what came before it by the user's own count, the answer is SUNDR_SEND_AGAIN, and gives
+ * the structure: send these bytes, with the signature that was made of them if it was kept, or with
+ * another one of these very bytes. Nothing else is to be done: the list is not accepted, nothing in it
+ * is to be believed, and nothing new is made of it. Then get a new list, and check that.
+ *
+ * The limit. Where another user's commit came between the cut and the sending, the pending structure
+ * does not count it, and an honest server refuses these bytes for ever (sundr_server_commit():
+ * SUNDR_UNORDERED). The client may make nothing else of that count, so this desk stays out: each check
+ * answers SUNDR_SEND_AGAIN. A server that keeps its lock from the listing until the commit, or until
+ * the client is back, leaves no such gap.
+ */
+
+/*
+ * sundr_memory_check: a client's check of the server's version structure list, and the counts of its
  * next version structure. It tells what a list is worth before anything is made, or signed.
  *
- * Reads the number of users, the client's own user, the client's current version structure
- * memory[0..memory_len) (98 bytes, or none where it has none yet), the list, and a mark for each of
- * its records (1 if the caller found the record's signature good). Accepted: the sixteen counts are
- * in counts[0..16), as numbers of the machine and not as bytes, and both results are 0. Of each
- * other user the next structure counts the own count of that user's record in the list, 0 where
- * there is none; and of the client's own user one more than memory does, or 1 without a memory.
+ * Reads the number of users, the client's own user, its memory file, the list, and a mark for each of
+ * the list's records (1 if the caller found the record's signature good). There are three answers:
+ * accepted, send again, and refused.
+ *
+ * Accepted: the sixteen counts are in counts[0..16), as numbers of the machine and not as bytes, again
+ * is as it was, and both results are 0. Of each other user the next structure counts the own count of
+ * that user's record in the list, 0 where there is none; and of the client's own user one more than
+ * what the file remembers does, or 1 where that is nothing.
+ *
+ * Send again: the answer is SUNDR_SEND_AGAIN, the pending structure is in again[0..98), and counts are
+ * as they were. No list is accepted by it. What is to be done, and what not, stands above.
  *
  * Nothing else is written, nothing is made, and nothing is kept: a check can be made any number of
- * times, and memory stays what it is. What it says is of this list and of this moment: the server's
+ * times, and the file stays what it is. What it says is of this list and of this moment: the server's
  * next list may have what these counts do not count.
  *
- * Refused, with counts as they were; tried in this order, each over all records before the next:
+ * Refused, with counts and again as they were; tried in this order, each over all records before the
+ * next:
  *   SUNDR_USERS         users is not 1 to 16, or user is not below users.
- *   SUNDR_LENGTH        memory_len is not 0 or 98, list_len is not a multiple of 98 or is above
- *                       98 * users, marks_len is not list_len / 98, or counts_len is not 16.
- *   SUNDR_MALFORMED     first SUNDR_MEMORY_POSITION: memory is not well formed, or not the
- *                       client's own; else first is the first record that is not well formed,
- *                       or whose owner is not above the owner before.
+ *   SUNDR_LENGTH        file_len is not 100, list_len is not a multiple of 98 or is above
+ *                       98 * users, marks_len is not list_len / 98, counts_len is not 16, or
+ *                       again_len is not 98.
+ *   SUNDR_MALFORMED     first SUNDR_MEMORY_POSITION: the file is not this user's; else first is the
+ *                       first record that is not well formed, or whose owner is not above the owner
+ *                       before.
  *   SUNDR_UNSIGNED      first: the first mark that is not 1.
- *   SUNDR_NOT_CURRENT   the list's record for the user and memory differ in a byte, or only
- *                       one of them is there.
- *   SUNDR_LAST_VERSION  memory counts 4,294,967,295 operations of the user.
+ *   SUNDR_SEND_AGAIN    no refusal: the file is pending, the list's record for the user and the
+ *                       structure in the file differ, and the record counts one operation of the user
+ *                       less; or the list has none, and the structure counts one.
+ *   SUNDR_NOT_CURRENT   the list's record for the user and what the file remembers differ in a byte,
+ *                       or only one of them is there.
+ *   SUNDR_LAST_VERSION  the file remembers 4,294,967,295 operations of the user.
  *   SUNDR_UNORDERED     first, second: the least pair of records of which neither is at or
  *                       before the other; where second is the number of records, it means the
  *                       next structure, by its counts, and the first is not strictly before it.
  *
- * What stands in counts where a list is refused, perhaps of an earlier check, is not of this list:
+ * What stands in counts where a list is not accepted, perhaps of an earlier check, is not of this list:
  * make nothing of it. How two version structures stand to each other, older, newer or forked,
  * sundr_compare() tells.
  */
-uint64_t sundr_check_list(uint8_t users, uint8_t user,
-	const uint8_t *memory, size_t memory_len,
+uint64_t sundr_memory_check(uint8_t users, uint8_t user,
+	const uint8_t *file, size_t file_len,
 	const uint8_t *list, size_t list_len,
 	const uint8_t *marks, size_t marks_len,
-	uint32_t *counts, size_t counts_len);
+	uint32_t *counts, size_t counts_len,
+	uint8_t *again, size_t again_len);
 
 /*
- * sundr_create: a client's next version structure, from the counts that a check gave.
+ * sundr_memory_create: a client's next version structure, from the counts that a check gave.
  *
- * Reads the number of users, the client's own user, memory as sundr_check_list() does, the sixteen
- * counts, and the new i-handle. Accepted: the structure of that user, that i-handle and those
- * counts is in out[0..98), and both results are 0.
+ * Reads the number of users, the client's own user, its memory file as it stands on the disk, the
+ * sixteen counts, and the new i-handle. Accepted: the structure of that user, that i-handle and those
+ * counts is in out[0..98), and both results are 0. Sent and pending are the same to it.
  *
  * It judges no list and no order, and does not know whose counts these are: those of other users
- * are written as they are given, also where they are lower than memory's. To give it the counts of
+ * are written as they are given, also where they are lower than the file's. To give it the counts of
  * a check that accepted, at the same client, is the caller's: that no client accepts a list which
  * joins two sides of a fork rests on this.
  *
- * To sign the structure, and to keep it as the next calls' memory, is the caller's too: written to
- * disk, and there for good, before it is sent. A client that sent a structure and forgot it is
- * refused from then on, or signs a second one of the same count, which forks its own history.
+ * To write the structure as pending, at once, and then to sign it is the caller's too. A client that
+ * sent a structure and forgot it is refused from then on, or signs a second one of the same count,
+ * which forks its own history.
  *
  * Counts go stale. Where another user has committed since the list was taken, an honest server
  * refuses what is made of them (sundr_server_commit(): SUNDR_UNORDERED). Its client remembers it
  * all the same, and is locked out: no list of an honest server will have it, and each check of one
- * is refused from then on (SUNDR_NOT_CURRENT). So check again right before a structure is made and
+ * answers SUNDR_SEND_AGAIN from then on. So check again right before a structure is made and
  * signed, or, to leave no gap, hold the server's lock from the listing to the commit.
  *
  * Refused, with out as it was; tried in this order:
  *   SUNDR_USERS         users is not 1 to 16, or user is not below users.
- *   SUNDR_LENGTH        memory_len is not 0 or 98, counts_len is not 16, handle_len is not 32, or
- *                       out_len is not 98.
- *   SUNDR_MALFORMED     first SUNDR_MEMORY_POSITION: memory is not well formed, or not the
- *                       client's own; else first 0, whichever count it is: a count of a user from
- *                       users to 15 is not 0.
- *   SUNDR_LAST_VERSION  memory counts 4,294,967,295 operations of the user.
- *   SUNDR_NOT_NEXT      the count of the user is not one more than memory's, or not 1 without a
- *                       memory: the counts were used before, say, or are of no accepted check.
+ *   SUNDR_LENGTH        file_len is not 100, counts_len is not 16, handle_len is not 32, or out_len
+ *                       is not 98.
+ *   SUNDR_MALFORMED     first SUNDR_MEMORY_POSITION: the file is not this user's; else first 0,
+ *                       whichever count it is: a count of a user from users to 15 is not 0.
+ *   SUNDR_LAST_VERSION  the file remembers 4,294,967,295 operations of the user.
+ *   SUNDR_NOT_NEXT      the count of the user is not one more than what the file remembers, or not 1
+ *                       where that is nothing: the counts were used before, say, or are of no accepted
+ *                       check.
  */
-uint64_t sundr_create(uint8_t users, uint8_t user,
-	const uint8_t *memory, size_t memory_len,
+uint64_t sundr_memory_create(uint8_t users, uint8_t user,
+	const uint8_t *file, size_t file_len,
 	const uint32_t *counts, size_t counts_len,
 	const uint8_t *handle, size_t handle_len,
 	uint8_t *out, size_t out_len);
+
+/*
+ * sundr_memory_pend: the file of a structure that was just made, in state pending.
+ *
+ * Reads the number of users, the client's own user, and the structure version[0..98). Accepted: the
+ * file is in file[0..100), and both results are 0. What sundr_memory_create() accepted is never
+ * refused, with room for the file.
+ *
+ * It does not know the file before: to give it nothing but what was made of that, and to write the new
+ * file in the old one's place before anything else, is the caller's.
+ *
+ * Refused, with file as it was; tried in this order:
+ *   SUNDR_USERS       users is not 1 to 16, or user is not below users.
+ *   SUNDR_LENGTH      version_len is not 98, or file_len is not 100.
+ *   SUNDR_MALFORMED   first SUNDR_MEMORY_POSITION: the structure is not well formed, or not of this
+ *                     user.
+ */
+uint64_t sundr_memory_pend(uint8_t users, uint8_t user,
+	const uint8_t *version, size_t version_len,
+	uint8_t *file, size_t file_len);
+
+/*
+ * sundr_memory_sent: marks a pending file as sent, once the server has accepted its structure.
+ *
+ * Reads the number of users, the client's own user, and the file. Accepted, if it is pending: its
+ * second byte is SUNDR_STATE_SENT, and no other is changed. Accepted, if it is sent or none: the file
+ * is as it was, so that it does no harm to mark it twice. Both results are 0. The caller writes the
+ * file in the old one's place.
+ *
+ * Refused, with file as it was; tried in this order:
+ *   SUNDR_USERS       users is not 1 to 16, or user is not below users.
+ *   SUNDR_LENGTH      file_len is not 100.
+ *   SUNDR_MALFORMED   first SUNDR_MEMORY_POSITION: the file is not this user's.
+ */
+uint64_t sundr_memory_sent(uint8_t users, uint8_t user, uint8_t *file, size_t file_len);
+
+/*
+ * sundr_memory_over: the file of what a client remembered before there were files, which moves over:
+ * its last structure, 98 bytes, or none; also a client's first file.
+ *
+ * The structure moves over as sent, for 98 bytes do not say whether the server has it. If it never
+ * reached the server, a list without it is SUNDR_NOT_CURRENT, as it was before there were files, and
+ * never SUNDR_SEND_AGAIN: so see to it that the server has it before it is moved over.
+ *
+ * Reads the number of users, the client's own user, and the structure old[0..old_len). Accepted: the
+ * file is in file[0..100), in state sent, or none where old_len is 0, and both results are 0.
+ *
+ * Refused, with file as it was; tried in this order:
+ *   SUNDR_USERS       users is not 1 to 16, or user is not below users.
+ *   SUNDR_LENGTH      old_len is not 0 or 98, or file_len is not 100.
+ *   SUNDR_MALFORMED   first SUNDR_MEMORY_POSITION: the structure is not well formed, or not of this
+ *                     user.
+ */
+uint64_t sundr_memory_over(uint8_t users, uint8_t user,
+	const uint8_t *old, size_t old_len,
+	uint8_t *file, size_t file_len);
+
+/*
+ * sundr_memory_back: what sundr_memory_over() moved over, moved back. Neither way loses anything.
+ *
+ * Reads the number of users, the client's own user, and the file. Accepted: the first result is 98,
+ * and the structure is in old[0..98); or it is 0, the state is none, and old is as it was. The second
+ * result is 0. Room for 98 bytes is needed either way.
+ *
+ * Refused, with old as it was; tried in this order:
+ *   SUNDR_USERS       users is not 1 to 16, or user is not below users.
+ *   SUNDR_LENGTH      file_len is not 100, or old_len is not 98.
+ *   SUNDR_MALFORMED   first SUNDR_MEMORY_POSITION: the file is not this user's.
+ *   SUNDR_PENDING     the file is pending: 98 bytes could not say so.
+ */
+uint64_t sundr_memory_back(uint8_t users, uint8_t user,
+	const uint8_t *file, size_t file_len,
+	uint8_t *old, size_t old_len);
 
 /*
  * A server's version structure list. Slot v, the 98 bytes from records[98 * v] on, holds the last

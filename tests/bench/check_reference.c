@@ -8,6 +8,6 @@ void prepare(size_t size)
 
 void work(void)
 {
-	if (reference_check(users, user, list, marks, counts) != 0)
+	if (reference_check(users, user, file, list, marks, counts, again) != 0)
 		abort();
 }

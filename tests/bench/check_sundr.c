@@ -8,7 +8,7 @@ void prepare(size_t size)
 
 void work(void)
 {
-	if (sundr_check_list(users, user, list + 98 * user, 98, list, 98 * (size_t)users, marks, users,
-			counts, 16) != SUNDR_ACCEPTED)
+	if (sundr_memory_check(users, user, file, sizeof file, list, 98 * (size_t)users, marks, users,
+			counts, 16, again, sizeof again) != SUNDR_ACCEPTED)
 		abort();
 }

@@ -102,7 +102,12 @@ const fn many(title: &'static str, questions: usize, size: &'static [usize; 1], 
     }
 }
 
-pub const CONTESTS: [Contest; 32] = [
+/// A memory file, written or read back, that holds a structure of sixteen users.
+const fn memory(title: &'static str, call: &'static str, entries: &'static [Entry]) -> Contest {
+    Contest { title, call, measure: Measure::Calls, sizes: &[16], rows: &[16], go: 4_000_000, entries }
+}
+
+pub const CONTESTS: [Contest; 36] = [
     Contest {
         title: "SHA-256",
         call: "sundr_sha256",
@@ -131,7 +136,7 @@ pub const CONTESTS: [Contest; 32] = [
     // A list with a record of each user, which is accepted.
     Contest {
         title: "A client's check",
-        call: "sundr_check_list",
+        call: "sundr_memory_check",
         measure: Measure::Calls,
         sizes: &[16, 8, 2],
         rows: &[16, 8, 2],
@@ -141,13 +146,33 @@ pub const CONTESTS: [Contest; 32] = [
     // Of the counts that such a check gives.
     Contest {
         title: "A version structure made, 16 users",
-        call: "sundr_create",
+        call: "sundr_memory_create",
         measure: Measure::Calls,
         sizes: &[16],
         rows: &[16],
         go: 4_000_000,
         entries: &[entry("libsundr.a", "create_sundr"), entry(REFERENCE, "create_reference")],
     },
+    memory(
+        "A structure made pending, 16 users",
+        "sundr_memory_pend",
+        &[entry("libsundr.a", "pend_sundr"), entry(REFERENCE, "pend_reference")],
+    ),
+    memory(
+        "A file marked as sent, 16 users",
+        "sundr_memory_sent",
+        &[entry("libsundr.a", "sent_sundr"), entry(REFERENCE, "sent_reference")],
+    ),
+    memory(
+        "A memory moved over, 16 users",
+        "sundr_memory_over",
+        &[entry("libsundr.a", "over_sundr"), entry(REFERENCE, "over_reference")],
+    ),
+    memory(
+        "A memory moved back, 16 users",
+        "sundr_memory_back",
+        &[entry("libsundr.a", "back_sundr"), entry(REFERENCE, "back_reference")],
+    ),
     Contest {
         title: "A server made, 16 users",
         call: "sundr_server_make_at",

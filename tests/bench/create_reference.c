@@ -8,6 +8,6 @@ void prepare(size_t size)
 
 void work(void)
 {
-	if (reference_create(users, user, memory, counts, handle, new) != 0)
+	if (reference_create(users, user, file, counts, handle, new) != 0)
 		abort();
 }

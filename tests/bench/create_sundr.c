@@ -8,7 +8,7 @@ void prepare(size_t size)
 
 void work(void)
 {
-	if (sundr_create(users, user, memory, sizeof memory, counts, 16, handle, sizeof handle,
+	if (sundr_memory_create(users, user, file, sizeof file, counts, 16, handle, sizeof handle,
 			new, sizeof new) != SUNDR_ACCEPTED)
 		abort();
 }

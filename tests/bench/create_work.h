@@ -1,4 +1,4 @@
-/* What the contenders of the making step work on: what is remembered, the counts of a check, and the new i-handle. */
+/* What the contenders of the making step work on: a memory file, the counts of a check, and the new i-handle. */
 #ifndef CREATE_WORK_H
 #define CREATE_WORK_H
 
@@ -7,7 +7,7 @@
 
 #include "worker.h"
 
-static uint8_t memory[98], handle[32], new[98];
+static uint8_t file[100], handle[32], new[98];
 static uint32_t counts[16];
 static uint8_t users, user;
 
@@ -18,13 +18,14 @@ static void fill(size_t size)
 
 	users = (uint8_t)size;
 	user = (uint8_t)(size / 2);
-	memset(memory, 0, sizeof memory);
+	memset(file, 0, sizeof file);
 	memset(counts, 0, sizeof counts);
-	memory[0] = 1;
-	memory[1] = user;
+	file[0] = 7;
+	file[2] = 1;
+	file[3] = user;
 	memset(handle, 7, sizeof handle);
 	for (v = 0; v < size; v++) {
-		memory[37 + 4 * v] = 100;
+		file[39 + 4 * v] = 100;
 		counts[v] = 100 + (v == user);
 	}
 }

@@ -4,26 +4,32 @@
 #[path = "../src/reference/mod.rs"]
 mod reference;
 
-use reference::check::check;
+use reference::check::{check_file, Verdict};
+use reference::memory::FILE;
 use reference::server::Server;
 use reference::version::{RECORD, USERS};
 use std::slice::from_raw_parts;
 
-/// The check of a list that has a record of each user; the client's own is its memory.
+/// The check of a list that has a record of each user.
 #[no_mangle]
 pub extern "C" fn reference_check(
     users: u8,
     user: u8,
+    file: &[u8; FILE],
     list: &[u8; RECORD * USERS],
     marks: &[u8; USERS],
     counts: &mut [u32; USERS],
+    again: &mut [u8; RECORD],
 ) -> u8 {
     let records = usize::from(users);
-    let memory = &list[RECORD * usize::from(user)..][..RECORD];
-    match check(users, user, memory, &list[..RECORD * records], &marks[..records], counts.len()) {
-        Ok(new) => {
+    match check_file(users, user, file, &list[..RECORD * records], &marks[..records], counts.len(), again.len()) {
+        Ok(Verdict::Next(new)) => {
             *counts = new;
             0
+        }
+        Ok(Verdict::Again(pending)) => {
+            *again = pending;
+            255
         }
         Err(refusal) => refusal.0,
     }

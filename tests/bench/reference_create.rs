@@ -4,20 +4,21 @@
 #[path = "../src/reference/mod.rs"]
 mod reference;
 
-use reference::create::create;
+use reference::create::create_file;
+use reference::memory::FILE;
 use reference::version::{RECORD, USERS};
 
-/// The making step, where something is remembered.
+/// The making step.
 #[no_mangle]
 pub extern "C" fn reference_create(
     users: u8,
     user: u8,
-    memory: &[u8; RECORD],
+    file: &[u8; FILE],
     counts: &[u32; USERS],
     handle: &[u8; 32],
     out: &mut [u8; RECORD],
 ) -> u8 {
-    match create(users, user, memory, counts, handle, out.len()) {
+    match create_file(users, user, file, counts, handle, out.len()) {
         Ok(new) => {
             *out = new;
             0

@@ -74,6 +74,8 @@ int main(void)
 	check("an answer of every single bit, and of all but it", bits(0));
 	check("an answer of every two bits, and of all but them", bits(1));
 	check("an answer's parts at their edges, each with each", edges());
+	check("send again is a number of its own", sundr_refusal(SUNDR_SEND_AGAIN) == SUNDR_SEND_AGAIN
+		&& reads(SUNDR_SEND_AGAIN, REFUSALS - 1, 0, 0));
 	check("one above the greatest refusal is a first position", reads(REFUSALS, 0, 1, 0));
 	check("one above the greatest first position is a second one", reads(REFUSALS * FIRSTS, 0, 0, 1));
 	check("one above the greatest of both is a second position", reads((REFUSALS - 1) + REFUSALS * (FIRSTS - 1) + 1, 0, 0, 1));

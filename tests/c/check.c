@@ -1,4 +1,7 @@
-/* The papers' examples of a client's check, by the counts that it gives, and a server's session, through include/sundr.h. */
+/*
+ * The papers' examples of a client's check, by the counts that it gives, and a server's session, through include/sundr.h.
+ * What a check says while the memory is pending, memory.c has.
+ */
 #define _DEFAULT_SOURCE /* MAP_ANONYMOUS */
 
 #include "sundr.h"
@@ -10,27 +13,32 @@
 #include "check.h"
 #include "examples.h"
 
-/* The sixteen counts with room around them, so that one written outside is seen. */
+/* The sixteen counts, and the bytes of "send again", with room around them, so that one written outside is seen. */
 struct answer {
 	uint32_t before[8], counts[16], after[8];
+	uint8_t again[98], behind[32];
 };
 
-/* Sixteen counts in memory that can be read and not written. */
+/* Sixteen counts, and 98 bytes, in memory that can be read and not written. */
 static const uint32_t locked[16];
+static const uint8_t locked_again[98];
 
-static uint64_t ask_into(const struct given *g, uint32_t *counts)
+static uint64_t ask_into(const struct given *g, uint32_t *counts, uint8_t *again)
 {
-	return sundr_check_list(2, g->user, g->memory, g->memory_len, g->list, 98 * g->records,
-		g->marks, g->records, counts, 16);
+	return sundr_memory_check(2, g->user, g->file, 100, g->list, 98 * g->records, g->marks, g->records,
+		counts, 16, again, 98);
 }
 
 static uint64_t ask(const struct given *g, struct answer *a)
 {
 	memset(a, 0x5a, sizeof *a);
-	return ask_into(g, a->counts);
+	return ask_into(g, a->counts, a->again);
 }
 
-/* Whether the list is accepted, these are the counts, those of users 2 to 15 are 0, and nothing beside them is written. */
+/*
+ * Whether the list is accepted, these are the counts, those of users 2 to 15 are 0, and nothing beside them is written: the
+ * bytes of "send again" may be read-only.
+ */
 static int accepts(struct given g, uint32_t a, uint32_t b)
 {
 	struct given before = g;
@@ -42,10 +50,10 @@ static int accepts(struct given g, uint32_t a, uint32_t b)
 	due.counts[0] = a;
 	due.counts[1] = b;
 	return answer == SUNDR_ACCEPTED && memcmp(&got, &due, sizeof due) == 0
-		&& memcmp(&g, &before, sizeof g) == 0;
+		&& memcmp(&g, &before, sizeof g) == 0 && ask_into(&g, got.counts, (uint8_t *)locked_again) == answer;
 }
 
-/* Whether the list is refused with this number and these positions, and no count is written: they may be read-only. */
+/* Whether the list is refused with this number and these positions, and nothing is written: all may be read-only. */
 static int refuses(struct given g, enum sundr_refusal_number number, uint32_t first, uint32_t second)
 {
 	struct given before = g;
@@ -55,21 +63,18 @@ static int refuses(struct given g, enum sundr_refusal_number number, uint32_t fi
 	memset(&due, 0x5a, sizeof due);
 	return sundr_refusal(answer) == number && sundr_first(answer) == first && sundr_second(answer) == second
 		&& memcmp(&got, &due, sizeof due) == 0 && memcmp(&g, &before, sizeof g) == 0
-		&& ask_into(&g, (uint32_t *)locked) == answer;
+		&& ask_into(&g, (uint32_t *)locked, (uint8_t *)locked_again) == answer;
 }
 
 /* Refusals that the examples do not come to, and buffers at NULL. */
 static void refusals(void)
 {
 	struct given g = given(2);
+	const struct given none = given(0);
 	uint32_t counts[17];
+	uint8_t again[98];
 
 	check("a user that there is not", refuses(g, SUNDR_USERS, 0, 0));
-
-	g = given(0);
-	remember(&g, A(1, 0));
-	g.memory_len = 97;
-	check("a memory of 97 bytes", refuses(g, SUNDR_LENGTH, 0, 0));
 
 	g = given(0);
 	remember(&g, B(0, 1));
@@ -96,18 +101,21 @@ static void refusals(void)
 	add(&g, B(0, 1));
 	check("the last number, and a fork", refuses(g, SUNDR_LAST_VERSION, 0, 0));
 
-	check("no memory, no list, no marks, at NULL",
-		sundr_check_list(1, 0, NULL, 0, NULL, 0, NULL, 0, counts, 16) == SUNDR_ACCEPTED);
-	check("no counts, at NULL", sundr_check_list(1, 0, NULL, 0, NULL, 0, NULL, 0, NULL, 0) == SUNDR_LENGTH);
+	check("no list, no marks, at NULL",
+		sundr_memory_check(1, 0, none.file, 100, NULL, 0, NULL, 0, counts, 16, again, 98) == SUNDR_ACCEPTED);
+	check("no file, no counts, no room for send again, at NULL",
+		sundr_memory_check(1, 0, NULL, 0, NULL, 0, NULL, 0, counts, 16, again, 98) == SUNDR_LENGTH
+		&& sundr_memory_check(1, 0, none.file, 100, NULL, 0, NULL, 0, NULL, 0, again, 98) == SUNDR_LENGTH
+		&& sundr_memory_check(1, 0, none.file, 100, NULL, 0, NULL, 0, counts, 16, NULL, 0) == SUNDR_LENGTH);
 	check("fifteen counts, and seventeen",
-		sundr_check_list(1, 0, NULL, 0, NULL, 0, NULL, 0, (uint32_t *)locked, 15) == SUNDR_LENGTH
-		&& sundr_check_list(1, 0, NULL, 0, NULL, 0, NULL, 0, counts, 17) == SUNDR_LENGTH);
+		sundr_memory_check(1, 0, none.file, 100, NULL, 0, NULL, 0, (uint32_t *)locked, 15, again, 98) == SUNDR_LENGTH
+		&& sundr_memory_check(1, 0, none.file, 100, NULL, 0, NULL, 0, counts, 17, again, 98) == SUNDR_LENGTH);
 	g = given(0);
 	remember(&g, B(0, 1));
 	add(&g, B(0, 0));
 	check("fifteen counts, after the users and before all that is read",
-		sundr_check_list(2, 2, g.memory, 98, g.list, 98, g.marks, 1, counts, 15) == SUNDR_USERS
-		&& sundr_check_list(2, 0, g.memory, 98, g.list, 98, g.marks, 1, counts, 15) == SUNDR_LENGTH);
+		sundr_memory_check(2, 2, g.file, 100, g.list, 98, g.marks, 1, counts, 15, again, 98) == SUNDR_USERS
+		&& sundr_memory_check(2, 0, g.file, 100, g.list, 98, g.marks, 1, counts, 15, again, 98) == SUNDR_LENGTH);
 }
 
 /* Whether the server's list is these records, with the bytes after them as they were. */

@@ -1,6 +1,6 @@
 /*
- * The making step, through include/sundr.h: every refusal with all later faults behind it, the own count that is due, and
- * what is written, which is not judged. What it is after a check, turn.c has.
+ * The making step, through include/sundr.h: every refusal with all later faults behind it, the own count that is due in
+ * each state of the memory file, and what is written, which is not judged. What it is after a check, turn.c has.
  */
 #include "sundr.h"
 
@@ -25,9 +25,9 @@ static void no_such_user(struct step *s)
 	s->user = s->users;
 }
 
-static void short_memory(struct step *s)
+static void short_file(struct step *s)
 {
-	s->memory_len = 97;
+	s->file_len = 99;
 }
 
 static void fifteen_counts(struct step *s)
@@ -45,25 +45,40 @@ static void short_room(struct step *s)
 	s->out_len = 97;
 }
 
+static void file_of_another_kind(struct step *s)
+{
+	s->file[0] = 1;
+}
+
+static void third_state(struct step *s)
+{
+	s->file[1] = 3;
+}
+
+static void none_before_structure(struct step *s)
+{
+	s->file[1] = SUNDR_STATE_NONE;
+}
+
 static void memory_of_another_kind(struct step *s)
 {
-	s->memory[0] = 2;
+	s->file[VERSION] = 2;
 }
 
 static void memory_of_another(struct step *s)
 {
-	s->memory[1] = 0;
-	put(s->memory + 34, 1);
+	s->file[VERSION + 1] = 0;
+	put(s->file + COUNTS, 1);
 }
 
 static void memory_without_own(struct step *s)
 {
-	put(s->memory + 34 + 4, 0);
+	put(s->file + COUNTS + 4, 0);
 }
 
 static void memory_beyond(struct step *s)
 {
-	put(s->memory + 34 + 4 * 15, 1);
+	put(s->file + COUNTS + 4 * 15, 1);
 }
 
 static void counts_beyond(struct step *s)
@@ -73,7 +88,7 @@ static void counts_beyond(struct step *s)
 
 static void last_memory(struct step *s)
 {
-	put(s->memory + 34 + 4, 4294967295);
+	put(s->file + COUNTS + 4, 4294967295);
 }
 
 static void count_again(struct step *s)
@@ -90,10 +105,13 @@ static const struct {
 	{"no users", no_users, SUNDR_USERS, 0},
 	{"17 users", too_many_users, SUNDR_USERS, 0},
 	{"a user that there is not", no_such_user, SUNDR_USERS, 0},
-	{"a memory of 97 bytes", short_memory, SUNDR_LENGTH, 0},
+	{"a file of 99 bytes", short_file, SUNDR_LENGTH, 0},
 	{"fifteen counts", fifteen_counts, SUNDR_LENGTH, 0},
 	{"an i-handle of 31 bytes", short_handle, SUNDR_LENGTH, 0},
 	{"room for 97 bytes", short_room, SUNDR_LENGTH, 0},
+	{"a file of another kind", file_of_another_kind, SUNDR_MALFORMED, SUNDR_MEMORY_POSITION},
+	{"state 3", third_state, SUNDR_MALFORMED, SUNDR_MEMORY_POSITION},
+	{"state none, and a structure behind it", none_before_structure, SUNDR_MALFORMED, SUNDR_MEMORY_POSITION},
 	{"a memory of another kind", memory_of_another_kind, SUNDR_MALFORMED, SUNDR_MEMORY_POSITION},
 	{"a memory of another user's", memory_of_another, SUNDR_MALFORMED, SUNDR_MEMORY_POSITION},
 	{"a memory without an own operation", memory_without_own, SUNDR_MALFORMED, SUNDR_MEMORY_POSITION},
@@ -135,17 +153,17 @@ static void refusals(void)
 /* Each length by one, and none: by itself, and with all that is tried after lengths. */
 static void lengths(void)
 {
-	static const size_t memory[] = {1, 97, 99}, counts[] = {0, 15, 17}, handle[] = {0, 31, 33}, room[] = {0, 97, 99};
+	static const size_t file[] = {0, 98, 99, 101}, counts[] = {0, 1, 15, 17}, handle[] = {0, 31, 33, 98},
+		room[] = {0, 97, 99, 100};
 	struct step s = step_of(3, 1);
-	uint8_t out[98];
 	int i, malformed, holds[4] = {1, 1, 1, 1};
 
-	for (i = 0; i < 3; i++)
+	for (i = 0; i < 4; i++)
 		for (malformed = 0; malformed < 2; malformed++) {
 			struct step faulty = malformed ? with_faults(MALFORMED) : step_of(3, 1);
 
 			s = faulty;
-			s.memory_len = memory[i];
+			s.file_len = file[i];
 			holds[0] = refuses(s, SUNDR_LENGTH, 0) && holds[0];
 			s = faulty;
 			s.counts_len = counts[i];
@@ -157,18 +175,17 @@ static void lengths(void)
 			s.out_len = room[i];
 			holds[3] = refuses(s, SUNDR_LENGTH, 0) && holds[3];
 		}
-	check("a memory of 1, 97 and 99 bytes", holds[0]);
-	check("0, 15 and 17 counts", holds[1]);
-	check("an i-handle of 0, 31 and 33 bytes", holds[2]);
-	check("room for 0, 97 and 99 bytes", holds[3]);
+	check("a file of 0, 98, 99 and 101 bytes", holds[0]);
+	check("0, 1, 15 and 17 counts", holds[1]);
+	check("an i-handle of 0, 31, 33 and 98 bytes", holds[2]);
+	check("room for 0, 97, 99 and 100 bytes", holds[3]);
 
 	s = step_of(3, 1);
-	s.counts[1] = 1;
-	check("no memory, at NULL", sundr_create(3, 1, NULL, 0, s.counts, 16, s.handle, 32, out, 98) == SUNDR_ACCEPTED);
-	check("no counts, no i-handle, no room, at NULL",
-		sundr_create(3, 1, s.memory, 98, NULL, 0, s.handle, 32, (uint8_t *)locked, 98) == SUNDR_LENGTH
-		&& sundr_create(3, 1, s.memory, 98, s.counts, 16, NULL, 0, (uint8_t *)locked, 98) == SUNDR_LENGTH
-		&& sundr_create(3, 1, s.memory, 98, s.counts, 16, s.handle, 32, NULL, 0) == SUNDR_LENGTH);
+	check("no file, no counts, no i-handle, no room, at NULL",
+		sundr_memory_create(3, 1, NULL, 0, s.counts, 16, s.handle, 32, (uint8_t *)locked, 98) == SUNDR_LENGTH
+		&& sundr_memory_create(3, 1, s.file, 100, NULL, 0, s.handle, 32, (uint8_t *)locked, 98) == SUNDR_LENGTH
+		&& sundr_memory_create(3, 1, s.file, 100, s.counts, 16, NULL, 0, (uint8_t *)locked, 98) == SUNDR_LENGTH
+		&& sundr_memory_create(3, 1, s.file, 100, s.counts, 16, s.handle, 32, NULL, 0) == SUNDR_LENGTH);
 }
 
 /* Every user of every number of users, and a count of each user who is not, whose place is 0 whoever it is. */
@@ -198,20 +215,27 @@ static void users_beyond(void)
 
 /*
  * Whether user 2 of 4, who remembers so many own operations, makes a structure of this own count where it is due, and
- * only there. Who remembers none has no memory, whatever bytes are there.
+ * only there: sent and pending alike. Who remembers none has a file in state none.
  */
 static int makes_own(uint32_t remembered, uint32_t own)
 {
 	struct step s = step_of(4, 2);
+	int state, holds = 1;
 
-	if (remembered == 0)
-		s.memory_len = 0;
-	else
-		set_memory(&s, remembered);
+	set_memory(&s, remembered);
 	s.counts[2] = own;
-	if (own == 0 || own - 1 != remembered)
-		return refuses(s, remembered == 4294967295 ? SUNDR_LAST_VERSION : SUNDR_NOT_NEXT, 0);
-	return makes(s);
+	for (state = SUNDR_STATE_SENT; state <= SUNDR_STATE_PENDING; state++) {
+		s.file[1] = (uint8_t)state;
+		if (remembered == 0) {
+			memset(s.file + VERSION, 0, 98);
+			s.file[1] = SUNDR_STATE_NONE;
+		}
+		if (own == 0 || own - 1 != remembered)
+			holds = refuses(s, remembered == 4294967295 ? SUNDR_LAST_VERSION : SUNDR_NOT_NEXT, 0) && holds;
+		else
+			holds = makes(s) && holds;
+	}
+	return holds;
 }
 
 static void own_counts(void)
@@ -228,8 +252,8 @@ static void own_counts(void)
 		for (j = 0; j < COUNTS; j++)
 			*holds = makes_own(counts[i], counts[j]) && *holds;
 	}
-	check("after no memory the own count is 1, and nothing else", none);
-	check("it is one more than remembered, and nothing else", some);
+	check("from a file in state none the own count is 1, and nothing else", none);
+	check("it is one more than remembered, sent or pending, and nothing else", some);
 	check("after the last count nothing is one more: 6, not 16", last);
 }
 
@@ -241,8 +265,8 @@ static void unjudged(void)
 	uint8_t out[98];
 	int i, holds = 1;
 
-	put(s.memory + 34, 9);
-	put(s.memory + 34 + 4, 4294967295);
+	put(s.file + COUNTS, 9);
+	put(s.file + COUNTS + 4, 4294967295);
 	check("counts of others that are lower than remembered are written", makes(s));
 	s.counts[0] = s.counts[1] = s.counts[3] = 0;
 	check("none of others too", makes(s));

@@ -40,25 +40,34 @@ static inline struct version B(uint32_t a, uint32_t b)
 	return v;
 }
 
-/* What a client of two users is given: a memory (memory_len 0 or 98) and up to two records. */
+/* What a client of two users is given: a memory file, and up to two records. */
 struct given {
-	uint8_t user, memory[98], list[2 * 98], marks[2];
-	size_t memory_len, records;
+	uint8_t user, file[100], list[2 * 98], marks[2];
+	size_t records;
 };
 
+/* A client that remembers nothing. */
 static inline struct given given(uint8_t user)
 {
 	struct given g;
 
 	memset(&g, 0, sizeof g);
 	g.user = user;
+	g.file[0] = 7;
+	g.file[1] = SUNDR_STATE_NONE;
 	return g;
 }
 
+static inline void remember_in(struct given *g, uint8_t state, struct version v)
+{
+	g->file[1] = state;
+	encode(g->file + 2, v);
+}
+
+/* A structure that the server has accepted. */
 static inline void remember(struct given *g, struct version v)
 {
-	encode(g->memory, v);
-	g->memory_len = 98;
+	remember_in(g, SUNDR_STATE_SENT, v);
 }
 
 static inline void add(struct given *g, struct version v)

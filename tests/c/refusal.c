@@ -1,4 +1,4 @@
-/* The sentences that a user is shown for a refusal: one for each number that there is, and one for all others. */
+/* The sentences that a user is shown: one for each refusal that there is, one for "send again", and one for all others. */
 #include "sundr.h"
 
 #include <limits.h>
@@ -7,7 +7,7 @@
 #include "check.h"
 
 /* One above the last refusal. */
-enum { REFUSALS = 17 };
+enum { REFUSALS = 18 };
 
 /* Whether a sentence fits one line of a log or a dialogue. */
 static int is_a_line(const char *text)
@@ -33,10 +33,10 @@ static int is(unsigned number, const char *due)
 
 int main(void)
 {
-	static const unsigned others[] = {REFUSALS, 255, 256, 256 + SUNDR_UNORDERED, INT_MAX, UINT_MAX};
+	static const unsigned others[] = {REFUSALS, 254, 256, 256 + SUNDR_SEND_AGAIN, 256 + SUNDR_UNORDERED, INT_MAX, UINT_MAX};
 	static const char *const about[REFUSALS] = {"accepted", "user", "length", "malformed", "signature", "last version",
 		"no further version", "forked", "hash", "path", "no block", "ascend", "too short", "no free place",
-		"count of the block", "holds no", "not your next version"};
+		"count of the block", "holds no", "not your next version", "pending"};
 	char name[64];
 	unsigned i;
 
@@ -53,9 +53,14 @@ int main(void)
 	check("7: forked", is(SUNDR_UNORDERED, "two versions are not ordered: forked, or a record is hidden"));
 	check("16: used before, or of no accepted check", is(SUNDR_NOT_NEXT,
 		"these counts are not your next version's: used before, or of no accepted check"));
-	check("17 is no refusal, and says so", is_a_line(sundr_refusal_text(REFUSALS)) && is_its_own(REFUSALS));
+	check("17: not moved back", is(SUNDR_PENDING,
+		"your last version is pending: it may not have reached the server, and does not move back"));
+	check("255 is send again", SUNDR_SEND_AGAIN == 255 && is(SUNDR_SEND_AGAIN,
+		"the list does not show your last version: send the same bytes again"));
+	check("it has a line of its own", is_a_line(sundr_refusal_text(SUNDR_SEND_AGAIN)) && is_its_own(SUNDR_SEND_AGAIN));
+	check("18 is no refusal, and says so", is_a_line(sundr_refusal_text(REFUSALS)) && is_its_own(REFUSALS));
 	for (i = 1; i < sizeof others / sizeof others[0]; i++) {
-		sprintf(name, "%u has the sentence of 17", others[i]);
+		sprintf(name, "%u has the sentence of 18", others[i]);
 		check(name, is(others[i], sundr_refusal_text(REFUSALS)));
 	}
 	return finish();

@@ -22,6 +22,12 @@ static uint8_t list[16 * 98], forked[16 * 98], marks[16], handle[32];
  */
 static uint8_t malformed[16 * 98], last[16 * 98], ahead[16 * 98], unmarked[16];
 
+/*
+ * The memory file of each user, its record in the list as sent; user 15's next record pending, and the record at the last
+ * count as sent; and a file in state none.
+ */
+static uint8_t files[16][100], pending_file[100], last_file[100], none_file[100];
+
 /* A server that holds the list; user 15's next record, and one that does not count user 14's operation. */
 static struct sundr_server server;
 static uint8_t record[98], apart[98];
@@ -51,9 +57,13 @@ static uint8_t large_inode[549], indirect[4097], large_handle[32];
  */
 static uint8_t store[SUNDR_STORE_LEN], stored_hash[32];
 
-/* All that the calls write. The record is committed to a server of its own, and blocks are stored in a store of their own. */
+/*
+ * All that the calls write. The record is committed to a server of its own, blocks are stored in a store of their own, and a
+ * file that is marked as sent is a pending one before.
+ */
 static struct written {
 	uint32_t counts[16];
+	uint8_t again[98], pended[100], marked[100], moved[100], none[100], back[98];
 	uint8_t hash[5][32], next[98], made[1569], listed[16 * 98], blocks[273 * 642], found[32];
 	uint8_t entries[65 * 33], no_entries[64 * 33];
 	struct sundr_server server;
@@ -94,6 +104,26 @@ static void fill_lists(void)
 	sundr_counts(record, next_counts);
 	sundr_counts(apart, apart_counts);
 	sundr_counts(list + 98 * 15, listed_counts);
+}
+
+static void fill_file_of(uint8_t *to, uint8_t state, const uint8_t *version)
+{
+	to[0] = 7;
+	to[1] = state;
+	memcpy(to + 2, version, 98);
+}
+
+/* After the lists. */
+static void fill_memory(void)
+{
+	size_t v;
+
+	for (v = 0; v < 16; v++)
+		fill_file_of(files[v], SUNDR_STATE_SENT, list + 98 * v);
+	fill_file_of(pending_file, SUNDR_STATE_PENDING, record);
+	fill_file_of(last_file, SUNDR_STATE_SENT, last + 98 * 15);
+	none_file[0] = 7;
+	none_file[1] = SUNDR_STATE_NONE;
 }
 
 static void fill_table(void)
@@ -182,12 +212,14 @@ static void prepare_cases(void)
 	for (i = 0; i < sizeof message; i++)
 		message[i] = (uint8_t)(i % 251);
 	fill_lists();
+	fill_memory();
 	fill_table();
 	fill_questions();
 	fill_file();
 	fill_large_file();
 	fill_store();
 	memset(&written, 0x5a, sizeof written);
+	memcpy(written.marked, pending_file, sizeof written.marked);
 	written.server = server;
 	memcpy(written.store, store, sizeof store);
 }

@@ -7,11 +7,14 @@
 #include "bytes.h"
 #include "sundr.h"
 
+/* Where a memory file has its structure, and the structure's counts. */
+enum { VERSION = 2, COUNTS = VERSION + 34 };
+
 /* What the making step is given. Each buffer has one element more than is taken. */
 struct step {
-	uint8_t users, user, memory[99], handle[33];
+	uint8_t users, user, file[101], handle[33];
 	uint32_t counts[17];
-	size_t memory_len, counts_len, handle_len, out_len;
+	size_t file_len, counts_len, handle_len, out_len;
 };
 
 /* The structure's bytes with room around them, so that a byte written outside is seen. */
@@ -24,19 +27,21 @@ static const uint8_t locked[99];
 
 static uint64_t make_into(const struct step *s, uint8_t *out)
 {
-	return sundr_create(s->users, s->user, s->memory, s->memory_len, s->counts, s->counts_len,
+	return sundr_memory_create(s->users, s->user, s->file, s->file_len, s->counts, s->counts_len,
 		s->handle, s->handle_len, out, s->out_len);
 }
 
-/* The user's memory of so many own operations, and no others. Its i-handle is not that of the step. */
+/* The user's memory of so many own operations, and no others, as sent. Its i-handle is not that of the step. */
 static void set_memory(struct step *s, uint32_t own)
 {
-	memset(s->memory, 0, sizeof s->memory);
-	s->memory[0] = 1;
-	s->memory[1] = s->user;
-	memset(s->memory + 2, 0x11, 32);
-	put(s->memory + 34 + 4 * s->user, own);
-	s->memory_len = 98;
+	memset(s->file, 0, sizeof s->file);
+	s->file[0] = 7;
+	s->file[1] = SUNDR_STATE_SENT;
+	s->file[VERSION] = 1;
+	s->file[VERSION + 1] = s->user;
+	memset(s->file + VERSION + 2, 0x11, 32);
+	put(s->file + COUNTS + 4 * s->user, own);
+	s->file_len = 100;
 }
 
 /* A step that is accepted, of this user among so many, after 41 operations. */

@@ -1,6 +1,6 @@
 /*
- * A client's turn by its two calls, through include/sundr.h: the papers' examples, each checked and then made; and a card
- * that signs, whose touch comes late, or twice.
+ * A client's turn by its calls, through include/sundr.h: the papers' examples, each checked, made and written as pending;
+ * and a card that signs, whose touch comes late, or twice. What a client does that was cut off, memory.c has.
  */
 #include "sundr.h"
 
@@ -12,28 +12,30 @@
 /* The check of an example, and the making step with the counts that it leaves: zeros where it left them alone. */
 static void turn(const struct given *g, uint64_t *checked, uint32_t counts[16], uint64_t *made, uint8_t out[98])
 {
-	uint8_t handle[32];
+	uint8_t handle[32], again[98];
 
 	memset(handle, 0xc7, sizeof handle);
 	memset(counts, 0, 16 * sizeof counts[0]);
 	memset(out, 0x5a, 98);
-	*checked = sundr_check_list(2, g->user, g->memory, g->memory_len, g->list, 98 * g->records,
-		g->marks, g->records, counts, 16);
-	*made = sundr_create(2, g->user, g->memory, g->memory_len, counts, 16, handle, sizeof handle, out, 98);
+	*checked = sundr_memory_check(2, g->user, g->file, 100, g->list, 98 * g->records, g->marks, g->records,
+		counts, 16, again, sizeof again);
+	*made = sundr_memory_create(2, g->user, g->file, 100, counts, 16, handle, sizeof handle, out, 98);
 }
 
-/* Whether the check gives these counts, and the making step this user's structure with them. */
+/* Whether the check gives these counts, the making step this user's structure with them, and that is a pending file. */
 static int is_made(struct given g, uint32_t a, uint32_t b)
 {
 	uint32_t counts[16], due_counts[16] = {a, b};
 	struct version next = {g.user, 0xc7, a, b};
 	uint64_t checked, made;
-	uint8_t out[98], due[98];
+	uint8_t out[98], file[100], due[100] = {7, SUNDR_STATE_PENDING};
 
 	turn(&g, &checked, counts, &made, out);
-	encode(due, next);
+	encode(due + 2, next);
 	return checked == SUNDR_ACCEPTED && memcmp(counts, due_counts, sizeof counts) == 0
-		&& made == SUNDR_ACCEPTED && memcmp(out, due, sizeof due) == 0;
+		&& made == SUNDR_ACCEPTED && memcmp(out, due + 2, sizeof out) == 0
+		&& sundr_memory_pend(2, g.user, out, sizeof out, file, sizeof file) == SUNDR_ACCEPTED
+		&& memcmp(file, due, sizeof due) == 0;
 }
 
 /* Whether the check refuses so, and nothing is made of sixteen zeros: at the last count 6 comes before 16. */
@@ -50,12 +52,27 @@ static int is_not_made(struct given g, enum sundr_refusal_number number, uint32_
 		&& made == (number == SUNDR_LAST_VERSION ? SUNDR_LAST_VERSION : SUNDR_NOT_NEXT);
 }
 
-/* A client of two users: what it remembers, and the counts of its last check. */
+/* A client of two users: its memory file, the bytes of its last "send again", and the counts of its last check. */
 struct client {
-	uint8_t user, memory[98];
-	size_t memory_len;
+	uint8_t user, file[100], again[98];
 	uint32_t counts[16];
 };
+
+static struct client client(uint8_t user)
+{
+	struct client c;
+
+	memset(&c, 0, sizeof c);
+	c.user = user;
+	sundr_memory_over(2, user, NULL, 0, c.file, sizeof c.file);
+	return c;
+}
+
+/* How many operations of a user the client remembers. */
+static uint32_t remembers(const struct client *c, uint8_t user)
+{
+	return sundr_count(c->file + 2, user);
+}
 
 static uint64_t check_server(struct client *c, const struct sundr_server *server)
 {
@@ -63,27 +80,32 @@ static uint64_t check_server(struct client *c, const struct sundr_server *server
 	uint8_t list[2 * 98];
 	size_t records = sundr_first(sundr_server_list(server, list, sizeof list));
 
-	return sundr_check_list(2, c->user, c->memory, c->memory_len, list, 98 * records, marks, records, c->counts, 16);
+	return sundr_memory_check(2, c->user, c->file, sizeof c->file, list, 98 * records, marks, records,
+		c->counts, 16, c->again, sizeof c->again);
 }
 
-/* The card is touched: what is made is remembered. The i-handle is of one byte, repeated. */
+/* The card is touched: what is made is remembered, as pending. The i-handle is of one byte, repeated. */
 static uint64_t touch(struct client *c, uint8_t byte)
 {
 	uint8_t handle[32], out[98];
 	uint64_t answer;
 
 	memset(handle, byte, sizeof handle);
-	answer = sundr_create(2, c->user, c->memory, c->memory_len, c->counts, 16, handle, sizeof handle, out, sizeof out);
-	if (answer == SUNDR_ACCEPTED) {
-		memcpy(c->memory, out, sizeof out);
-		c->memory_len = sizeof out;
-	}
+	answer = sundr_memory_create(2, c->user, c->file, sizeof c->file, c->counts, 16, handle, sizeof handle,
+		out, sizeof out);
+	if (answer == SUNDR_ACCEPTED)
+		answer = sundr_memory_pend(2, c->user, out, sizeof out, c->file, sizeof c->file);
 	return answer;
 }
 
-static uint64_t commit(const struct client *c, struct sundr_server *server)
+/* What is remembered is sent, and marked so if the server accepts it. */
+static uint64_t commit(struct client *c, struct sundr_server *server)
 {
-	return sundr_server_commit(server, c->memory, c->memory_len, 1);
+	uint64_t answer = sundr_server_commit(server, c->file + 2, 98, 1);
+
+	if (answer == SUNDR_ACCEPTED)
+		answer = sundr_memory_sent(2, c->user, c->file, sizeof c->file);
+	return answer;
 }
 
 static int takes_turn(struct client *c, struct sundr_server *server)
@@ -94,7 +116,7 @@ static int takes_turn(struct client *c, struct sundr_server *server)
 
 static void touches(void)
 {
-	struct client a = {.user = 0}, b = {.user = 1}, before, older;
+	struct client a = client(0), b = client(1), before, older;
 	struct sundr_server server;
 
 	sundr_server_make(2, &server);
@@ -102,16 +124,19 @@ static void touches(void)
 
 	before = a;
 	check("A checks", check_server(&a, &server) == SUNDR_ACCEPTED && a.counts[0] == 2 && a.counts[1] == 1);
-	check("the check leaves the memory", memcmp(a.memory, before.memory, sizeof a.memory) == 0);
+	check("the check leaves the file", memcmp(a.file, before.file, sizeof a.file) == 0);
 	before = a;
 	check("B takes a turn before A's card is touched", takes_turn(&b, &server));
-	check("the making step does not know", touch(&a, 0x32) == SUNDR_ACCEPTED && sundr_count(a.memory, 1) == 1);
+	check("the making step does not know", touch(&a, 0x32) == SUNDR_ACCEPTED && remembers(&a, 1) == 1);
 	check("the server refuses what is made of stale counts: 7, at B's record",
 		commit(&a, &server) == (SUNDR_UNORDERED | (uint64_t)1 << 8));
-	check("and A, who remembers it, is locked out: 5", check_server(&a, &server) == SUNDR_NOT_CURRENT);
+	check("and A, who remembers it, is locked out: each check is send again",
+		check_server(&a, &server) == SUNDR_SEND_AGAIN && memcmp(a.again, a.file + 2, 98) == 0);
+	check("and the server refuses that again: 7, at B's record",
+		sundr_server_commit(&server, a.again, 98, 1) == (SUNDR_UNORDERED | (uint64_t)1 << 8));
 
 	a = before;
-	check("checked again right before the touch, it is taken", takes_turn(&a, &server) && sundr_count(a.memory, 1) == 2);
+	check("checked again right before the touch, it is taken", takes_turn(&a, &server) && remembers(&a, 1) == 2);
 
 	older = a;
 	check("a second touch, from the same counts: 16", touch(&a, 0x33) == SUNDR_NOT_NEXT);

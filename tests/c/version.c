@@ -1,6 +1,6 @@
 /*
  * What a client reads in a version structure: the header's readers against the layout, which is written here anew,
- * and against what sundr_create() writes; and the position that means memory, in the check and in the making step.
+ * and against what sundr_memory_create() writes; and the position that means memory, in the check and in the making step.
  */
 #include "sundr.h"
 
@@ -89,29 +89,39 @@ static void chain(uint8_t *list)
 
 static uint8_t list[SUNDR_MAX_USERS * SUNDR_VERSION_LEN], marks[SUNDR_MAX_USERS], handle[SUNDR_HANDLE_LEN];
 
-/* A check of the whole chain, by the user of this number, who remembers this. */
-static uint64_t ask(int user, const uint8_t *memory, uint32_t *counts)
+/* A memory file with this structure, as sent. It is judged by nobody. */
+static void remember(uint8_t *file, const uint8_t *version)
 {
-	return sundr_check_list(SUNDR_MAX_USERS, (uint8_t)user, memory, SUNDR_VERSION_LEN, list, sizeof list,
-		marks, sizeof marks, counts, SUNDR_MAX_USERS);
+	file[0] = 7;
+	file[1] = SUNDR_STATE_SENT;
+	memcpy(file + 2, version, SUNDR_VERSION_LEN);
+}
+
+/* A check of the whole chain, by the user of this number, who has this file. */
+static uint64_t ask(int user, const uint8_t *file, uint32_t *counts)
+{
+	uint8_t again[SUNDR_VERSION_LEN];
+
+	return sundr_memory_check(SUNDR_MAX_USERS, (uint8_t)user, file, SUNDR_MEMORY_LEN, list, sizeof list,
+		marks, sizeof marks, counts, SUNDR_MAX_USERS, again, sizeof again);
 }
 
 /* The user's making step. */
-static uint64_t make(int user, const uint8_t *memory, const uint32_t *counts, uint8_t *out)
+static uint64_t make(int user, const uint8_t *file, const uint32_t *counts, uint8_t *out)
 {
-	return sundr_create(SUNDR_MAX_USERS, (uint8_t)user, memory, SUNDR_VERSION_LEN, counts, SUNDR_MAX_USERS,
+	return sundr_memory_create(SUNDR_MAX_USERS, (uint8_t)user, file, SUNDR_MEMORY_LEN, counts, SUNDR_MAX_USERS,
 		handle, sizeof handle, out, SUNDR_VERSION_LEN);
 }
 
 /* Whether a user's next structure, after the chain, is read as it is due, and counts what the check gave. */
 static int reads_next(int user)
 {
-	const uint8_t *memory = list + SUNDR_VERSION_LEN * user;
 	uint32_t counts[SUNDR_MAX_USERS], made[SUNDR_MAX_USERS];
-	uint8_t out[SUNDR_VERSION_LEN];
+	uint8_t file[SUNDR_MEMORY_LEN], out[SUNDR_VERSION_LEN];
 	int v, holds;
 
-	if (ask(user, memory, counts) != SUNDR_ACCEPTED || make(user, memory, counts, out) != SUNDR_ACCEPTED)
+	remember(file, list + SUNDR_VERSION_LEN * user);
+	if (ask(user, file, counts) != SUNDR_ACCEPTED || make(user, file, counts, out) != SUNDR_ACCEPTED)
 		return 0;
 	sundr_counts(out, made);
 	holds = sundr_owner(out) == user && memcmp(sundr_i_handle(out), handle, sizeof handle) == 0
@@ -137,29 +147,31 @@ static void answers(void)
 /* Whether memory with one byte altered is what both calls refuse, at the position that means memory. */
 static int refuses_memory(int at, uint8_t byte)
 {
-	uint8_t memory[SUNDR_VERSION_LEN], out[SUNDR_VERSION_LEN];
+	uint8_t file[SUNDR_MEMORY_LEN], out[SUNDR_VERSION_LEN];
 	uint32_t counts[SUNDR_MAX_USERS] = {0};
 	uint64_t answer;
 
-	memcpy(memory, list, sizeof memory);
-	memory[at] = byte;
-	answer = ask(0, memory, counts);
+	remember(file, list);
+	file[2 + at] = byte;
+	answer = ask(0, file, counts);
 	return sundr_refusal(answer) == SUNDR_MALFORMED && sundr_first(answer) == SUNDR_MEMORY_POSITION
-		&& sundr_second(answer) == 0 && make(0, memory, counts, out) == answer;
+		&& sundr_second(answer) == 0 && make(0, file, counts, out) == answer;
 }
 
 /* Needs the chain. The last record of the longest list has the greatest position that means a record. */
 static void positions(void)
 {
 	uint8_t *last = list + (SUNDR_MAX_USERS - 1) * SUNDR_VERSION_LEN;
+	uint8_t file[SUNDR_MEMORY_LEN];
 	uint32_t counts[SUNDR_MAX_USERS];
 	uint64_t answer;
 
 	check("memory of another kind", refuses_memory(0, 2));
 	check("memory of another user's", refuses_memory(1, 1));
 	check("memory that counts no own operation", refuses_memory(COUNTS + 3, 0));
+	remember(file, list);
 	last[0] = 2;
-	answer = ask(0, list, counts);
+	answer = ask(0, file, counts);
 	check("the last of sixteen records has the position before memory's", sundr_refusal(answer) == SUNDR_MALFORMED
 		&& sundr_first(answer) + 1 == SUNDR_MEMORY_POSITION && sundr_second(answer) == 0);
 	last[0] = 1;

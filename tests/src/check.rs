@@ -1,148 +1,124 @@
-//! sundr_check_list against the second implementation.
+//! sundr_memory_check against the second implementation.
 
-use crate::ffi::{sundr_check_list, Answer};
+use crate::ffi::{sundr_memory_check, Answer};
 use crate::guarded::Guarded;
 use crate::histories::History;
 use crate::lists::{pick, some_handle, Draft, Request};
 use crate::random::Random;
-use crate::reference::check::check;
+use crate::reference::check::{check_file, Verdict};
 use crate::reference::version::{Version, RECORD, USERS};
 use crate::reference::Refusal;
 use crate::runner::{enough, equal, hex, Outcome, Runner};
+use crate::verdicts::{kinds, Seen};
+use std::collections::BTreeMap;
 
-/// What a check comes to: sixteen counts, or a refusal.
-pub type Due = Result<[u32; USERS], Refusal>;
-
-/// How often each answer was due.
-#[derive(Default)]
-pub struct Seen {
-    pub accepted: usize,
-    /// By number and first position.
-    refused: [[usize; USERS + 1]; 8],
-    /// Refusals 7 of two records, by the first and by the second; of a record and the new structure, by the record.
-    firsts: [usize; USERS],
-    seconds: [usize; USERS],
-    new_structure: [usize; USERS],
-}
-
-impl Seen {
-    fn count(&mut self, due: &Due, records: usize) {
-        match due {
-            Ok(_) => self.accepted += 1,
-            Err(Refusal(number, first, second)) => {
-                self.refused[usize::from(*number)][*first as usize] += 1;
-                if *number == 7 && *second as usize == records {
-                    self.new_structure[*first as usize] += 1;
-                } else if *number == 7 {
-                    self.firsts[*first as usize] += 1;
-                    self.seconds[*second as usize] += 1;
-                }
-            }
-        }
-    }
-
-    /// How often a refusal was due.
-    pub fn number(&self, number: usize) -> usize {
-        self.refused[number].iter().sum()
-    }
-
-    /// An error unless each answer was due this often.
-    fn at_least(&self, times: usize) -> Outcome {
-        let numbers = (1..=7).map(|number| (format!("refusal {number}"), self.number(number)));
-        let others = [
-            ("accepted", self.accepted),
-            ("refusal 3 of the memory", self.refused[3][16]),
-            ("refusal 7 of two records", self.firsts.iter().sum()),
-            ("refusal 7 of the new structure", self.new_structure.iter().sum()),
-        ];
-        enough(numbers.chain(others.map(|(what, seen)| (what.to_string(), seen))), times)
-    }
-
-    /// An error unless each place of a refusal was told this often.
-    pub fn places_at_least(&self, times: usize) -> Outcome {
-        let last = USERS - 1;
-        let places = [
-            ("refusal 3", &self.refused[3][..], 0),
-            ("refusal 4", &self.refused[4][..USERS], 0),
-            ("refusal 7 of the new structure", &self.new_structure, 0),
-            ("refusal 7, first", &self.firsts[..last], 0),
-            ("refusal 7, second", &self.seconds[1..], 1),
-        ];
-        let each = |(what, seen, from): (&'static str, &[usize], usize)| -> Vec<(String, usize)> {
-            seen.iter().enumerate().map(|(i, &times)| (format!("{what} at {}", from + i), times)).collect()
-        };
-        enough(places.into_iter().flat_map(each), times)
-    }
-}
+/// What a check comes to: sixteen counts, what is to be sent again, or a refusal.
+pub type Due = Result<Verdict, Refusal>;
 
 /// The second implementation's answer.
 pub fn due(request: &Request) -> Due {
-    let Request { users, user, memory, list, marks, counts_len } = request;
-    check(*users, *user, memory, list, marks, *counts_len)
+    let Request { users, user, file, list, marks, counts_len, again_len } = request;
+    check_file(*users, *user, file, list, marks, *counts_len, *again_len)
 }
 
-/// One call, on the library alone: the answer, and what sixteen zeros are then.
-pub fn answer(request: &Request) -> (Answer, [u32; USERS]) {
-    let Request { users, user, memory, list, marks, .. } = request;
-    let [m, l, k] = [memory, list, marks].map(|bytes| (bytes.as_ptr(), bytes.len()));
-    let mut counts = [0; USERS];
+/// The counts, if the second implementation gives some.
+pub fn counts_due(request: &Request) -> Option<[u32; USERS]> {
+    match due(request) {
+        Ok(Verdict::Next(counts)) => Some(counts),
+        _ => None,
+    }
+}
+
+/// The answer that says so.
+pub fn answer_of(due: &Due) -> Answer {
+    match due {
+        Ok(Verdict::Next(_)) => Answer::Accepted(0, 0),
+        Ok(Verdict::Again(_)) => Answer::Again(0, 0),
+        Err(Refusal(number, first, second)) => Answer::Refused(*number, *first, *second),
+    }
+}
+
+/// What a call says: the answer, and what sixteen and 98 zeros are then.
+pub struct Said {
+    pub answer: Answer,
+    pub counts: [u32; USERS],
+    pub again: [u8; RECORD],
+}
+
+/// One call, on the library alone.
+pub fn ask(request: &Request) -> Said {
+    let Request { users, user, file, list, marks, .. } = request;
+    let [f, l, k] = [file, list, marks].map(|bytes| (bytes.as_ptr(), bytes.len()));
+    let (mut counts, mut again) = ([0; USERS], [0; RECORD]);
+    let (c, a) = (counts.as_mut_ptr(), again.as_mut_ptr());
     let answer =
-        unsafe { sundr_check_list(*users, *user, m.0, m.1, l.0, l.1, k.0, k.1, counts.as_mut_ptr(), counts.len()) };
-    (Answer::from(answer), counts)
+        unsafe { sundr_memory_check(*users, *user, f.0, f.1, l.0, l.1, k.0, k.1, c, counts.len(), a, again.len()) };
+    Said { answer: Answer::from(answer), counts, again }
 }
 
-/// The counts, if the library accepts.
-pub fn ask(request: &Request) -> Option<[u32; USERS]> {
-    let (answer, counts) = answer(request);
-    matches!(answer, Answer::Accepted(..)).then_some(counts)
-}
-
-/// One call, judged by what is due: the answer, the counts, and every byte that is not to change.
+/// One call, judged by what is due: the answer, the counts, what is to be sent again, and every byte that is not to change.
 pub fn judge_as(due: Due, request: &Request, random: &mut Random) -> Outcome {
-    let Request { users, user, memory, list, marks, counts_len } = request;
-    let lent = [memory, list, marks].map(|bytes| Guarded::new(bytes, random));
+    let Request { users, user, file, list, marks, counts_len, again_len } = request;
+    let lent = [file, list, marks].map(|bytes| Guarded::new(bytes, random));
     let before: Vec<u32> = (0..*counts_len).map(|_| random.next() as u32).collect();
     let mut counts = Guarded::counts(&before, random);
-    let [m, l, k] = lent.each_ref().map(|buffer| (buffer.pointer(), buffer.len()));
-    let pointer = counts.pointer_mut().cast();
-    let answer = unsafe { sundr_check_list(*users, *user, m.0, m.1, l.0, l.1, k.0, k.1, pointer, *counts_len) };
+    let mut again = Guarded::new(&random.bytes(*again_len), random);
+    let [f, l, k] = lent.each_ref().map(|buffer| (buffer.pointer(), buffer.len()));
+    let (c, a) = (counts.pointer_mut().cast(), again.pointer_mut());
+    let answer =
+        unsafe { sundr_memory_check(*users, *user, f.0, f.1, l.0, l.1, k.0, k.1, c, *counts_len, a, *again_len) };
 
     let judged = || {
-        equal("the answer", Answer::from(answer), Answer::from(due.map(|_| (0, 0))))?;
+        equal("the answer", Answer::from(answer), answer_of(&due))?;
         match due {
-            Err(_) => counts.unaltered().map_err(|e| format!("counts, refused: {e}"))?,
-            Ok(new) => {
+            Ok(Verdict::Next(new)) => {
                 counts.kept_guards().map_err(|e| format!("counts: {e}"))?;
                 equal("the counts", counts.content_counts(), new.to_vec())?;
             }
+            _ => counts.unaltered().map_err(|e| format!("counts, of which none are given: {e}"))?,
         }
-        for (name, buffer) in ["memory", "list", "marks"].iter().zip(&lent) {
+        match due {
+            Ok(Verdict::Again(pending)) => {
+                again.kept_guards().map_err(|e| format!("again: {e}"))?;
+                equal("what is to be sent again", hex(again.content()), hex(&pending))?;
+            }
+            _ => again.unaltered().map_err(|e| format!("again, and nothing is to be sent: {e}"))?,
+        }
+        for (name, buffer) in ["file", "list", "marks"].iter().zip(&lent) {
             buffer.unaltered().map_err(|e| format!("{name}: {e}"))?;
         }
         Ok(())
     };
     judged().map_err(|e: String| {
-        let lists = [memory, list, marks].map(|bytes| format!("{} {}", bytes.len(), hex(bytes)));
-        format!("{e}; user {user} of {users}, memory, list, marks {lists:?}, room for {counts_len} counts")
+        let lists = [file, list, marks].map(|bytes| format!("{} {}", bytes.len(), hex(bytes)));
+        let rooms = format!("room for {counts_len} counts and {again_len} bytes");
+        format!("{e}; user {user} of {users}, file, list, marks {lists:?}, {rooms}")
     })
 }
 
-/// One call, judged by the second implementation. Gives the counts, if they are due.
-pub fn judge(request: &Request, seen: &mut Seen, random: &mut Random) -> Result<Option<[u32; USERS]>, String> {
+/// One call, judged by the second implementation, whose answer it gives.
+pub fn judge(request: &Request, seen: &mut Seen, random: &mut Random) -> Result<Due, String> {
     let due = due(request);
-    seen.count(&due, request.list.len() / RECORD);
+    seen.count(&due, request);
     judge_as(due, request, random)?;
-    Ok(due.ok())
+    Ok(due)
 }
 
 /// Honest lists, with up to three lies and two damages in each.
 fn random_lists() -> Outcome {
     let mut random = Random::new(700_000);
     let mut seen = Seen::default();
+    let mut files: BTreeMap<&str, usize> = BTreeMap::new();
     for _ in 0..700_000 {
-        judge(&Request::any(&mut random), &mut seen, &mut random)?;
+        let request = Request::any(&mut random);
+        let due = judge(&request, &mut seen, &mut random)?;
+        for (kind, is) in kinds(&request, &due) {
+            *files.entry(kind).or_default() += usize::from(is);
+        }
     }
-    seen.at_least(5_000)
+    seen.at_least(5_000)?;
+    equal("the kinds", files.len(), 34)?;
+    enough(files.into_iter().map(|(kind, times)| (kind.to_string(), times)), 1_000)
 }
 
 /// Every number of users with every user, without a memory, and with one that is the list's only record.
@@ -155,7 +131,8 @@ fn every_user() -> Outcome {
             counts[usize::from(user) % USERS] = 1;
             for memory in [None, Some(Version::new(user, some_handle(&mut random), counts))] {
                 let list: Vec<Version> = memory.into_iter().collect();
-                judge(&Draft { users, user, memory, list }.request(), &mut seen, &mut random)?;
+                let pending = random.below(2) == 0;
+                let _ = judge(&Draft { users, user, memory, pending, list }.request(), &mut seen, &mut random)?;
             }
         }
     }
@@ -175,9 +152,9 @@ fn every_mark() -> Outcome {
                     Version::new(v, some_handle(&mut random), counts)
                 })
                 .collect();
-            let mut request = Draft::whole(list, random.below(users)).request();
+            let mut request = Draft::whole(list, random.below(users), &mut random).request();
             request.marks[place] = mark;
-            judge(&request, &mut seen, &mut random)?;
+            let _ = judge(&request, &mut seen, &mut random)?;
         }
     }
     equal(
@@ -195,21 +172,23 @@ fn every_length() -> Outcome {
         let counts = std::array::from_fn(|user| u32::from(user < records));
         let list: Vec<Version> = (0..records as u8).map(|v| Version::new(v, [v; 32], counts)).collect();
         let users = pick(&mut random, &[records.clamp(1, USERS), USERS]) as u8;
-        let draft = Draft { users, user: 0, memory: list.first().copied(), list };
+        let pending = random.below(2) == 0;
+        let draft = Draft { users, user: 0, memory: list.first().copied(), pending, list };
         let good = draft.request();
         let mut lengths: Vec<usize> = (0..=200).collect();
         lengths.extend([256, 65_536, 65_634]);
         lengths.extend((good.list.len().saturating_sub(99)..=good.list.len() + 99).filter(|&len| len > 200));
         for len in lengths {
-            for which in 0..4 {
+            for which in 0..5 {
                 let mut request = good.clone();
                 match which {
-                    0 => request.memory.resize(len, 0),
+                    0 => request.file.resize(len, 0),
                     1 => request.list.resize(len, 0),
                     2 => request.marks.resize(len, 1),
-                    _ => request.counts_len = len,
+                    3 => request.counts_len = len,
+                    _ => request.again_len = len,
                 }
-                judge(&request, &mut seen, &mut random)?;
+                let _ = judge(&request, &mut seen, &mut random)?;
             }
         }
     }
@@ -230,7 +209,7 @@ fn histories() -> Outcome {
             if random.below(20) == 0 {
                 request.damage(&mut random);
             }
-            if let Some(counts) = judge(&request, &mut seen, &mut random)? {
+            if let Ok(Verdict::Next(counts)) = judge(&request, &mut seen, &mut random)? {
                 let new = Version::new(request.user, some_handle(&mut random), counts);
                 history.accept(user, &draft.list, new, &mut random);
             }
@@ -241,7 +220,7 @@ fn histories() -> Outcome {
     if forks < 5_000 {
         return Err(format!("few forks, hidden users, rollbacks or acceptances: {forks}"));
     }
-    Ok(())
+    enough([("send again".to_string(), seen.again.iter().sum())], 2_000)
 }
 
 pub fn checks(runner: &mut Runner) {

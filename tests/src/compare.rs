@@ -1,4 +1,4 @@
-//! sundr_compare against the second implementation, and beside what sundr_check_list says of the same records.
+//! sundr_compare against the second implementation, and beside what sundr_memory_check says of the same records.
 
 use crate::check;
 use crate::ffi::{sundr_compare, Answer};
@@ -162,7 +162,7 @@ fn order(listed: &[Version], new: &Counts) -> Answer {
     Answer::Accepted(0, 0)
 }
 
-/// Lists that sundr_check_list accepts or refuses with 7: it does so exactly by how the counts in their bytes stand.
+/// Lists that sundr_memory_check accepts or refuses with 7: it does so exactly by how the counts in their bytes stand.
 fn orders() -> Outcome {
     let mut random = Random::new(98);
     let (mut accepted, mut two_records, mut new_structure) = (0, 0, 0);
@@ -170,7 +170,7 @@ fn orders() -> Outcome {
         let mut draft = Draft::honest(&mut random);
         (0..random.below(3)).for_each(|_| draft.lie(&mut random));
         let request = draft.request();
-        let (said, given) = check::answer(&request);
+        let check::Said { answer: said, counts: given, .. } = check::ask(&request);
         let listed: Vec<Version> = request.list.chunks(RECORD).map(Version::read).collect();
         match said {
             Answer::Accepted(..) => accepted += 1,

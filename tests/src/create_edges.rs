@@ -1,9 +1,10 @@
-//! sundr_create where it is known what is due: each argument by its edges, and every set of faults.
+//! sundr_memory_create where it is known what is due: each argument by its edges, and every set of faults.
 
 use crate::create::judge;
 use crate::lists::{pick, some_count, some_handle};
 use crate::makings::Making;
 use crate::random::Random;
+use crate::reference::memory::{Memory, FILE};
 use crate::reference::version::{Version, RECORD, USERS};
 use crate::reference::Refusal;
 use crate::runner::{equal, Outcome, Runner};
@@ -13,15 +14,19 @@ fn judge_known(refusal: Option<Refusal>, making: &Making, random: &mut Random) -
     equal("the second implementation's refusal", judge(making, random)?.err(), refusal)
 }
 
-/// One that is accepted, of this user: something is remembered, with these counts, or nothing.
+/// One that is accepted, of this user: something is remembered, with these counts, sent or pending, or nothing.
 fn good(users: u8, user: u8, remembered: Option<[u32; USERS]>, random: &mut Random) -> Making {
     let own = usize::from(user) % USERS;
     let mut counts: Vec<u32> =
         (0..USERS).map(|v| if v < usize::from(users) { some_count(random) } else { 0 }).collect();
     counts[own] = remembered.map_or(1, |counts| counts[own].wrapping_add(1));
-    let memory = remembered.map(|counts| Version::new(user, some_handle(random), counts).write().to_vec());
+    let memory = match remembered.map(|counts| Version::new(user, some_handle(random), counts)) {
+        None => Memory::Nothing,
+        Some(version) if random.below(2) == 0 => Memory::Pending(version),
+        Some(version) => Memory::Sent(version),
+    };
     let handle = some_handle(random).to_vec();
-    Making { users, user, memory: memory.unwrap_or_default(), counts, handle, out_len: RECORD }
+    Making { users, user, file: memory.write().to_vec(), counts, handle, out_len: RECORD }
 }
 
 /// Every number of users with every user, nothing remembered and something.
@@ -49,11 +54,8 @@ fn every_length() -> Outcome {
                 let mut making = good(users, random.below(users.into()) as u8, Some(counts), &mut random);
                 let fits = match which {
                     0 => {
-                        making.memory.resize(len, 0);
-                        if len == 0 {
-                            making.counts[usize::from(making.user)] = 1;
-                        }
-                        len == 0 || len == RECORD
+                        making.file.resize(len, 0);
+                        len == FILE
                     }
                     1 => {
                         making.counts.resize(len, 0);
@@ -121,21 +123,23 @@ fn every_own_count() -> Outcome {
     Ok(())
 }
 
-/// Every bit of what is remembered, of each user of one, two, fifteen and sixteen.
+/// Every bit of the file, of each user of one, two, fifteen and sixteen.
 fn every_bit_of_the_memory() -> Outcome {
     let mut random = Random::new(784);
     for users in [1, 2, 15, 16] {
         for user in 0..users {
             let counts = std::array::from_fn(|v| u32::from(v < usize::from(users)) * 5);
             let making = good(users, user, Some(counts), &mut random);
-            for bit in 0..8 * RECORD {
+            for bit in 0..8 * FILE {
                 let mut other = making.clone();
-                other.memory[bit / 8] ^= 1 << (bit % 8);
-                let own = 34 + 4 * usize::from(user);
+                other.file[bit / 8] ^= 1 << (bit % 8);
+                let own = 36 + 4 * usize::from(user);
                 let refusal = match bit / 8 {
-                    0 | 1 => Some(Refusal(3, 16, 0)),
-                    2..34 => None,
-                    at if at >= 34 + 4 * usize::from(users) => Some(Refusal(3, 16, 0)),
+                    // Sent becomes pending, or pending sent, which is the same here.
+                    1 if other.file[1] < 2 => None,
+                    0..4 => Some(Refusal(3, 16, 0)),
+                    4..36 => None,
+                    at if at >= 36 + 4 * usize::from(users) => Some(Refusal(3, 16, 0)),
                     at if (own..own + 4).contains(&at) => Some(Refusal(16, 0, 0)),
                     // Of another user any count may be remembered, and it is not looked at.
                     _ => None,
@@ -167,16 +171,19 @@ fn every_set_of_faults() -> Outcome {
             making.counts[users + random.below(USERS - users)] = 1 << random.below(32);
         }
         if fault(2) {
-            match random.below(4) {
-                0 => making.memory[0] = pick(&mut random, &[0, 2, 255]),
-                1 => making.memory[1] = ((user + 1) % users) as u8,
-                2 => making.memory[34 + 4 * user..38 + 4 * user].fill(0),
-                _ => making.memory[34 + 4 * users..][random.below(4)] = 1,
+            match random.below(7) {
+                0 => making.file[0] = pick(&mut random, &[0, 1, 6, 255]),
+                1 => making.file[1] = pick(&mut random, &[2, 3, 255]),
+                2 => making.file[2] = pick(&mut random, &[0, 2, 7, 255]),
+                3 => making.file[3] = ((user + 1) % users) as u8,
+                4 => making.file[36 + 4 * user..40 + 4 * user].fill(0),
+                5 => making.file[2..].fill(0),
+                _ => making.file[36 + 4 * users..][random.below(4)] = 1,
             }
         }
         if fault(1) {
             match random.below(4) {
-                0 => making.memory.resize(pick(&mut random, &[1, 97, 99, 196]), 0),
+                0 => making.file.resize(pick(&mut random, &[0, 1, 98, 99, 101, 200]), 0),
                 1 => making.counts.resize(pick(&mut random, &[0, 15, 17, 32]), 0),
                 2 => making.handle.resize(pick(&mut random, &[0, 31, 33, 64]), 0),
                 _ => making.out_len = pick(&mut random, &[0, 97, 99, 196]),
@@ -199,6 +206,6 @@ pub fn checks(runner: &mut Runner) {
     runner.check("create: lengths 0 to 200 and more, for each argument and number of users", every_length);
     runner.check("create: a count of each user that is not there, by each bit, and of two", every_count_beyond);
     runner.check("create: every user's own count, each side of each byte's limit, and at the last", every_own_count);
-    runner.check("create: every bit of what is remembered", every_bit_of_the_memory);
+    runner.check("create: every bit of the file", every_bit_of_the_memory);
     runner.check("create: every set of faults, of which the first is told", every_set_of_faults);
 }

@@ -7,29 +7,56 @@ extern "C" {
 
     pub fn sundr_compare(x: *const u32, y: *const u32) -> u64;
 
-    pub fn sundr_check_list(
+    pub fn sundr_memory_check(
         users: u8,
         user: u8,
-        memory: *const u8,
-        memory_len: usize,
+        file: *const u8,
+        file_len: usize,
         list: *const u8,
         list_len: usize,
         marks: *const u8,
         marks_len: usize,
         counts: *mut u32,
         counts_len: usize,
+        again: *mut u8,
+        again_len: usize,
     ) -> u64;
-    pub fn sundr_create(
+    pub fn sundr_memory_create(
         users: u8,
         user: u8,
-        memory: *const u8,
-        memory_len: usize,
+        file: *const u8,
+        file_len: usize,
         counts: *const u32,
         counts_len: usize,
         handle: *const u8,
         handle_len: usize,
         out: *mut u8,
         out_len: usize,
+    ) -> u64;
+    pub fn sundr_memory_pend(
+        users: u8,
+        user: u8,
+        version: *const u8,
+        version_len: usize,
+        file: *mut u8,
+        file_len: usize,
+    ) -> u64;
+    pub fn sundr_memory_sent(users: u8, user: u8, file: *mut u8, file_len: usize) -> u64;
+    pub fn sundr_memory_over(
+        users: u8,
+        user: u8,
+        old: *const u8,
+        old_len: usize,
+        file: *mut u8,
+        file_len: usize,
+    ) -> u64;
+    pub fn sundr_memory_back(
+        users: u8,
+        user: u8,
+        file: *const u8,
+        file_len: usize,
+        old: *mut u8,
+        old_len: usize,
     ) -> u64;
 
     pub fn sundr_server_make_at(users: u8, server: *mut u8, server_len: usize) -> u64;
@@ -108,10 +135,14 @@ extern "C" {
     pub fn sundr_unreference(store: *mut u8, store_len: usize, user: u8, hash: *const u8, hash_len: usize) -> u64;
 }
 
+/// The number that tells a check's "send again", which no refusal has.
+pub const SEND_AGAIN: u8 = 255;
+
 /// What a call answers, unpacked from its 64 bits: two results, or a refusal's number and two positions.
 #[derive(Clone, Copy, Debug, PartialEq, Eq)]
 pub enum Answer {
     Accepted(u32, u32),
+    Again(u32, u32),
     Refused(u8, u32, u32),
 }
 
@@ -122,6 +153,7 @@ impl From<u64> for Answer {
         let second = (answer >> 32) as u32;
         match number {
             0 => Answer::Accepted(first, second),
+            SEND_AGAIN => Answer::Again(first, second),
             _ => Answer::Refused(number, first, second),
         }
     }

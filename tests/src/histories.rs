@@ -14,14 +14,18 @@ pub struct History {
     users: usize,
     /// Those who sign what they accept, and nothing else.
     honest: [bool; USERS],
-    /// The last structure that each honest user accepted.
+    /// The last structure that each honest user signed, and whether its file still has it pending.
     pub memories: View,
+    pub pending: [bool; USERS],
+    /// The last one of each that the server got.
+    received: View,
     views: Vec<View>,
 }
 
 impl History {
     pub fn new(users: usize, honest: [bool; USERS]) -> History {
-        History { users, honest, memories: [None; USERS], views: vec![[None; USERS]] }
+        let none = [None; USERS];
+        History { users, honest, memories: none, pending: [false; USERS], received: none, views: vec![none] }
     }
 
     /// What the server sends to an honest user, whose memory goes with it. Entries of honest users
@@ -48,9 +52,9 @@ impl History {
             4 => view[random.below(self.users)] = None,
             _ => (),
         }
-        // Mostly the user's own entry is as it remembers it.
+        // Mostly the user's own entry is as it remembers it, if the server has that.
         if random.below(8) != 0 {
-            view[user] = self.memories[user];
+            view[user] = self.received[user];
         }
         for v in (0..self.users).filter(|&v| !self.honest[v]) {
             if random.below(3) == 0 {
@@ -58,12 +62,26 @@ impl History {
             }
         }
         let list = view.iter().flatten().copied().collect();
-        Draft { users: self.users as u8, user: user as u8, memory: self.memories[user], list }
+        let (memory, pending) = (self.memories[user], self.pending[user]);
+        Draft { users: self.users as u8, user: user as u8, memory, pending, list }
     }
 
-    /// A user accepted a list and signed the new structure, which the server keeps beside it.
+    /// A user accepted a list and signed the new structure, which the server keeps beside it. The user's file has it
+    /// pending, or is marked as sent by now.
     pub fn accept(&mut self, user: usize, list: &[Version], new: Version, random: &mut Random) {
+        self.sign(user, new);
+        self.pending[user] = random.below(2) == 0;
+        self.receive(user, list, new, random);
+    }
+
+    /// A user signed this. The server has not seen it.
+    pub fn sign(&mut self, user: usize, new: Version) {
         self.memories[user] = Some(new);
+    }
+
+    /// The server gets what a user signed on this list.
+    pub fn receive(&mut self, user: usize, list: &[Version], new: Version, random: &mut Random) {
+        self.received[user] = Some(new);
         let mut view = [None; USERS];
         for entry in list {
             view[usize::from(entry.owner)] = Some(*entry);

@@ -1,12 +1,15 @@
-//! The check and the making step, one after the other, against the call that did both before 02's request h. That call is
-//! kept here alone, as the second implementation had it, to hold the two, and the desk program, against it.
+//! The check and the making step, one after the other, on a memory file that is laid out unjudged, against the call that
+//! did both on a remembered structure before 02's request h. That call is kept here alone, as the second implementation had
+//! it, to hold the two, and the desk program, against it.
 
 use crate::check;
 use crate::create;
+use crate::damages::other_length;
 use crate::ffi::Answer;
-use crate::lists::{other_length, pick, Request};
+use crate::lists::{pick, Request};
 use crate::makings::Making;
 use crate::random::Random;
+use crate::reference::memory::file_of;
 use crate::reference::version::{Version, RECORD, USERS};
 use crate::reference::Refusal;
 use crate::runner::{enough, equal, hex, Outcome, Runner};
@@ -78,12 +81,13 @@ pub fn joint(
 
 /// What the library's two calls come to: the check's refusal, or else what the making step says of the check's counts.
 fn two_calls(request: &Request, handle: &[u8], out_len: usize, random: &mut Random) -> (Answer, Vec<u8>) {
-    match check::answer(request) {
-        (Answer::Accepted(0, 0), counts) => {
+    let said = check::ask(request);
+    match said.answer {
+        Answer::Accepted(0, 0) => {
             let handle = handle.to_vec();
-            create::answer(&Making { handle, out_len, ..Making::after(request, counts, random) })
+            create::answer(&Making { handle, out_len, ..Making::after(request, said.counts, random) })
         }
-        (refused, _) => (refused, vec![0; out_len]),
+        other => (other, vec![0; out_len]),
     }
 }
 
@@ -94,7 +98,10 @@ fn equal_to_both() -> Outcome {
     let (mut seen, mut told_later) = ([0; 8], 0);
     for _ in 0..340_000 {
         let mut request = Request::any(&mut random);
-        request.counts_len = USERS;
+        (request.counts_len, request.again_len) = (USERS, RECORD);
+        // Moved over unjudged: whatever its file remembers, if anything, is the memory of the joint call.
+        let memory = request.old_memory();
+        request.file = file_of(&memory);
         let mut handle = random.bytes(32);
         let mut out_len = RECORD;
         match random.below(22) {
@@ -102,8 +109,8 @@ fn equal_to_both() -> Outcome {
             1 => out_len = pick(&mut random, &[0, 97, 99, 196]),
             _ => (),
         }
-        let Request { users, user, memory, list, marks, .. } = &request;
-        let joint = joint(*users, *user, memory, list, marks, &handle, out_len);
+        let Request { users, user, list, marks, .. } = &request;
+        let joint = joint(*users, *user, &memory, list, marks, &handle, out_len);
         let due = if (handle.len(), out_len) == (32, RECORD) {
             seen[joint.err().map_or(0, |refusal| usize::from(refusal.0))] += 1;
             joint
@@ -119,7 +126,7 @@ fn equal_to_both() -> Outcome {
         let judged = equal("the two calls' answer", said, Answer::from(due.map(|_| (0, 0))))
             .and_then(|()| equal("what is made", out, made));
         judged.map_err(|e| {
-            let lists = [memory, list, marks, &handle].map(|bytes| format!("{} {}", bytes.len(), hex(bytes)));
+            let lists = [&memory, list, marks, &handle].map(|bytes| format!("{} {}", bytes.len(), hex(bytes)));
             format!("{e}; user {user} of {users}, memory, list, marks, handle {lists:?}, out of {out_len} bytes")
         })?;
     }

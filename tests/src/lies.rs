@@ -1,21 +1,21 @@
-//! sundr_check_list where it is known what is due: a lie at each place, and every set of faults.
+//! sundr_memory_check where it is known what is due: a lie at each place, and every set of faults.
 
-use crate::check::{due, judge, Seen};
+use crate::check::judge;
 use crate::lists::{other_than, pick, some_count, some_handle, Draft, Request};
 use crate::random::Random;
 use crate::reference::version::{Version, RECORD, USERS};
 use crate::reference::Refusal;
 use crate::runner::{equal, Outcome, Runner};
+use crate::verdicts::Seen;
 
 /// One call, judged, of which this refusal is due, or none.
 fn judge_known(refusal: Option<Refusal>, request: &Request, seen: &mut Seen, random: &mut Random) -> Outcome {
-    judge(request, seen, random)?;
-    equal("the second implementation's refusal", due(request).err(), refusal)
+    equal("the second implementation's refusal", judge(request, seen, random)?.err(), refusal)
 }
 
 /// Judges a list of sixteen records that are all ordered but for two, if any: refused with 7 at these two, or accepted.
 fn judge_apart(list: Vec<Version>, user: usize, apart: Option<(usize, usize)>, random: &mut Random) -> Outcome {
-    let request = Draft::whole(list, user).request();
+    let request = Draft::whole(list, user, random).request();
     let refusal = apart.map(|(i, j)| Refusal(7, i.min(j) as u32, i.max(j) as u32));
     judge_known(refusal, &request, &mut Seen::default(), random)
 }
@@ -70,21 +70,22 @@ fn every_count() -> Outcome {
 
 /// A list with a structure of each user, of at least this many. All count the same, each user at least two operations and
 /// none the last.
-fn level(least: usize, random: &mut Random) -> Draft {
+pub fn level(least: usize, random: &mut Random) -> Draft {
     let users = least + random.below(USERS + 1 - least);
     let counts = std::array::from_fn(|v| if v < users { some_count(random).clamp(2, u32::MAX - 1) } else { 0 });
     let list = (0..users as u8).map(|v| Version::new(v, some_handle(random), counts)).collect();
-    Draft::whole(list, random.below(users))
+    let user = random.below(users);
+    Draft::whole(list, user, random)
 }
 
 impl Draft {
     /// The client remembers its structure as it is listed.
-    fn remember(&mut self) {
+    pub fn remember(&mut self) {
         self.memory = Some(self.list[usize::from(self.user)]);
     }
 
     /// Two structures of a level list apart: each lacks operations that the other counts.
-    fn part(&mut self, i: usize, j: usize, random: &mut Random) {
+    pub fn part(&mut self, i: usize, j: usize, random: &mut Random) {
         let users = usize::from(self.users);
         let a = other_than(&[i], users, random);
         let b = other_than(&[j, a], users, random);
@@ -107,7 +108,7 @@ impl Draft {
 }
 
 /// A structure that is not well formed for so many users.
-fn malform(version: &mut Version, users: u8, random: &mut Random) {
+pub fn malform(version: &mut Version, users: u8, random: &mut Random) {
     match random.below(4) {
         0 => version.kind = pick(random, &[0, 2, 3, 129, 255]),
         1 => version.owner = pick(random, &[users, 16, 17, 255]),
@@ -123,7 +124,7 @@ fn malform(version: &mut Version, users: u8, random: &mut Random) {
 }
 
 /// A mark that is not 1.
-fn bad_mark(random: &mut Random) -> u8 {
+pub fn bad_mark(random: &mut Random) -> u8 {
     pick(random, &[0, 0, 2, 3, 129, 255])
 }
 
@@ -247,10 +248,11 @@ fn every_set_of_faults() -> Outcome {
             request.marks[mark] = bad_mark(&mut random);
         }
         if fault(1) {
-            match random.below(5) {
+            match random.below(6) {
                 0 => request.counts_len = pick(&mut random, &[0, 15, 17, 32]),
+                5 => request.again_len = pick(&mut random, &[0, 97, 99, 196]),
                 1 => request.marks.resize(pick(&mut random, &[0, records + 1, 98]), 1),
-                2 => request.memory.resize(pick(&mut random, &[1, 97, 99, 196]), 0),
+                2 => request.file.resize(pick(&mut random, &[0, 1, 98, 99, 101, 200]), 0),
                 3 => request.list.resize(request.list.len() + pick(&mut random, &[1, 97, RECORD * USERS]), 0),
                 _ => drop(request.list.pop()),
             }

@@ -2,6 +2,7 @@
 //! broken line or a careless caller makes of them.
 
 use crate::random::Random;
+use crate::reference::memory::{Memory, FILE, NONE};
 use crate::reference::version::{Version, RECORD, USERS};
 
 /// The arguments of one check.
@@ -9,10 +10,11 @@ use crate::reference::version::{Version, RECORD, USERS};
 pub struct Request {
     pub users: u8,
     pub user: u8,
-    pub memory: Vec<u8>,
+    pub file: Vec<u8>,
     pub list: Vec<u8>,
     pub marks: Vec<u8>,
     pub counts_len: usize,
+    pub again_len: usize,
 }
 
 /// A check's arguments before they are bytes.
@@ -20,6 +22,8 @@ pub struct Draft {
     pub users: u8,
     pub user: u8,
     pub memory: Option<Version>,
+    /// Whether the file says so of what is remembered.
+    pub pending: bool,
     pub list: Vec<Version>,
 }
 
@@ -85,12 +89,24 @@ impl Draft {
         let user = random.below(users) as u8;
         let list = ordered(users, random);
         let memory = list.iter().find(|version| version.owner == user).copied();
-        Draft { users: users as u8, user, memory, list }
+        Draft { users: users as u8, user, memory, pending: random.below(2) == 0, list }
     }
 
-    /// A list that has a structure of each user; the client's own is its memory.
-    pub fn whole(list: Vec<Version>, user: usize) -> Draft {
-        Draft { users: list.len() as u8, user: user as u8, memory: Some(list[user]), list }
+    /// A list that has a structure of each user; the client's own is its memory, sent or pending.
+    pub fn whole(list: Vec<Version>, user: usize, random: &mut Random) -> Draft {
+        let memory = Some(list[user]);
+        Draft { users: list.len() as u8, user: user as u8, memory, pending: random.below(2) == 0, list }
+    }
+
+    /// The client has made a structure, or several, that the list does not show: mostly one, and it is pending.
+    pub fn lose(&mut self, random: &mut Random) {
+        let own = usize::from(self.user);
+        let made = pick(random, &[1, 1, 1, 1, 1, 1, 2, 3]);
+        let mut new = self.memory.unwrap_or(Version::new(self.user, [0; 32], [0; USERS]));
+        new.counts[own] = new.counts[own].saturating_add(made);
+        new.handle = some_handle(random);
+        self.memory = Some(new);
+        self.pending = random.below(6) != 0;
     }
 
     /// The most operations of each user that a listed structure counts.
@@ -113,15 +129,16 @@ impl Draft {
         let own = usize::from(self.user);
         let next = self.memory.map_or(1, |memory| memory.own().saturating_add(1));
         if self.list.is_empty() {
-            match random.below(3) {
+            match random.below(4) {
                 0 => self.memory = Some(Version::new(self.user, some_handle(random), [1; USERS])),
+                1 => self.lose(random),
                 _ => self.list.push(Version::new(user as u8, some_handle(random), [some_count(random); USERS])),
             }
             return;
         }
         let n = self.list.len();
         let (i, j) = (random.below(n), random.below(n));
-        match random.below(20) {
+        match random.below(28) {
             // One count is another.
             0 => {
                 let count = some_count(random);
@@ -180,7 +197,7 @@ impl Draft {
                 });
             }
             // The client's own number is at the end.
-            12 => {
+            12 | 26 | 27 => {
                 let last = u32::MAX - random.below(2) as u32;
                 if let Some(i) = self.list.iter().position(|version| usize::from(version.owner) == own) {
                     self.alter(i, random, |version| version.counts[own] = last);
@@ -206,6 +223,15 @@ impl Draft {
                 let at = users + random.below(USERS + 1 - users);
                 self.alter(i, random, |version| version.counts[at % USERS] ^= 1);
             }
+            // What the client made last is not shown.
+            19..=22 => self.lose(random),
+            // The first that it made, or one of its first.
+            23 => {
+                self.list.retain(|version| usize::from(version.owner) != own);
+                self.memory = None;
+                self.lose(random);
+            }
+            24 => self.pending = !self.pending,
             _ => {
                 if let Some(memory) = &mut self.memory {
                     match random.below(4) {
@@ -219,79 +245,45 @@ impl Draft {
         }
     }
 
+    /// The client's memory file.
+    pub fn file(&self) -> Memory {
+        match self.memory {
+            None => Memory::Nothing,
+            Some(memory) if self.pending => Memory::Pending(memory),
+            Some(memory) => Memory::Sent(memory),
+        }
+    }
+
     pub fn request(&self) -> Request {
         Request {
             users: self.users,
             user: self.user,
-            memory: self.memory.map_or(Vec::new(), |memory| memory.write().to_vec()),
+            file: self.file().write().to_vec(),
             list: self.list.iter().flat_map(Version::write).collect(),
             marks: vec![1; self.list.len()],
             counts_len: USERS,
+            again_len: RECORD,
         }
-    }
-}
-
-/// A length that is not right: by one byte or one item, or far off.
-pub fn other_length(bytes: &mut Vec<u8>, item: usize, random: &mut Random) {
-    let len = bytes.len();
-    let to = match random.below(6) {
-        0 | 1 => len + 1,
-        2 | 3 => len.saturating_sub(1),
-        4 => len + item,
-        _ => pick(random, &[0, 1, 16, 31, 33, 97, 99, 195, 196, 256, 1_568, 1_569]),
-    };
-    bytes.resize(to, 1);
-}
-
-/// Any byte becomes any other.
-pub fn any_byte(bytes: &mut [u8], random: &mut Random) {
-    if !bytes.is_empty() {
-        let at = random.below(bytes.len());
-        bytes[at] = random.next() as u8;
     }
 }
 
 impl Request {
-    /// One argument out of its range, or of a wrong length, or bytes that a line has damaged.
-    pub fn damage(&mut self, random: &mut Random) {
-        match random.below(17) {
-            0 => self.users = pick(random, &[0, 17, 18, 32, 128, 255]),
-            1 => self.user = pick(random, &[self.users, self.users.saturating_add(1), 16, 255]),
-            2 => self.users = 1 + random.below(USERS) as u8,
-            3 => self.user = random.below(USERS) as u8,
-            4 => other_length(&mut self.memory, RECORD, random),
-            5 => other_length(&mut self.list, RECORD, random),
-            6 => other_length(&mut self.marks, 16, random),
-            7 => self.counts_len = pick(random, &[0, 1, 4, 15, 15, 17, 17, 32, 64, 98, 272]),
-            // One record more than there are users.
-            8 => {
-                let records = usize::from(self.users) + 1;
-                while self.list.len() < RECORD * records {
-                    let version = Version::new(self.marks.len() as u8, [0; 32], [1; USERS]);
-                    self.list.extend(version.write());
-                    self.marks.push(1);
-                }
-            }
-            9 => any_byte(&mut self.memory, random),
-            10 => any_byte(&mut self.list, random),
-            11 => any_byte(&mut self.marks, random),
-            12 => self.memory = vec![0; RECORD],
-            // A bit of the client's own structure, in both places.
-            13 => {
-                let at = self.list.chunks(RECORD).position(|record| record == self.memory);
-                if let Some(i) = at {
-                    let byte = random.below(RECORD);
-                    self.list[RECORD * i + byte] ^= 1 << random.below(8);
-                    self.memory = self.list[RECORD * i..RECORD * (i + 1)].to_vec();
-                }
-            }
-            _ => {
-                if !self.marks.is_empty() {
-                    let at = random.below(self.marks.len());
-                    self.marks[at] = pick(random, &[0, 0, 2, 3, 129, 255]);
-                }
-            }
+    /// The structure in the file, if there are its bytes.
+    pub fn remembered(&self) -> Option<Version> {
+        (self.file.len() == FILE && self.file[1] != NONE).then(|| Version::read(&self.file[2..]))
+    }
+
+    /// What the client would have brought before there were files: what is behind the state, or nothing.
+    pub fn old_memory(&self) -> Vec<u8> {
+        match self.file[..] {
+            [_, NONE, ..] => Vec::new(),
+            _ => self.file.get(2..).unwrap_or(&[]).to_vec(),
         }
+    }
+
+    /// The list's entry of the client's own.
+    pub fn entry(&self) -> Option<Version> {
+        self.list.chunks_exact(RECORD).find(|record| record[1] == self.user).map(Version::read)
     }
 
     /// An honest list with up to three lies and two damages.

@@ -11,7 +11,9 @@ mod choose;
 mod compare;
 mod create;
 mod create_edges;
+mod damages;
 mod desk;
+mod desks;
 mod faults;
 mod ffi;
 mod files;
@@ -31,7 +33,10 @@ mod lists;
 mod lookup;
 mod makings;
 mod many;
+mod memory;
+mod memory_edges;
 mod mixed;
+mod own_record;
 mod parts;
 mod paths;
 mod places;
@@ -46,6 +51,8 @@ mod stores;
 mod tables;
 mod tally;
 mod trees;
+mod turns;
+mod verdicts;
 
 use runner::Runner;
 use std::process::ExitCode;
@@ -53,9 +60,12 @@ use std::sync::atomic::{AtomicUsize, Ordering};
 use std::thread;
 
 /// The checks of each piece.
-const PIECES: [fn(&mut Runner); 27] = [
+const PIECES: [fn(&mut Runner); 32] = [
     sha256::checks,
     compare::checks,
+    own_record::checks,
+    memory_edges::checks,
+    memory::checks,
     check::checks,
     lies::checks,
     create::checks,
@@ -63,7 +73,9 @@ const PIECES: [fn(&mut Runner); 27] = [
     joint::checks,
     desk::checks,
     server::checks,
+    desks::checks,
     runs::checks,
+    turns::checks,
     itable::checks,
     lookup::checks,
     bounds::checks,

@@ -2,8 +2,10 @@
 //! mistaken caller or a broken line makes of them.
 
 use crate::check;
-use crate::lists::{any_byte, other_length, other_than, pick, some_count, some_handle, Draft, Request};
+use crate::damages::{damage_file, other_length};
+use crate::lists::{other_than, pick, some_count, some_handle, Draft, Request};
 use crate::random::Random;
+use crate::reference::memory::{Memory, FILE, NONE, PENDING, SENT};
 use crate::reference::version::{Version, RECORD, USERS};
 
 /// Whose check gave the counts of a making step, just as they are.
@@ -19,21 +21,22 @@ pub enum Source {
 pub struct Making {
     pub users: u8,
     pub user: u8,
-    pub memory: Vec<u8>,
+    pub file: Vec<u8>,
     pub counts: Vec<u32>,
     pub handle: Vec<u8>,
     pub out_len: usize,
 }
 
-/// What this user's client checks at an honest server with this list: its own structure is the one that it remembers.
+/// What this user's client checks at an honest server with this list: its own structure is the one that it remembers, sent
+/// or pending as it is in the draft.
 fn asks(user: usize, at: &Draft) -> Request {
     let memory = at.list.iter().find(|version| usize::from(version.owner) == user).copied();
-    Draft { users: at.users, user: user as u8, memory, list: at.list.clone() }.request()
+    Draft { users: at.users, user: user as u8, memory, pending: at.pending, list: at.list.clone() }.request()
 }
 
 /// This user's turn there, unless it is refused, at the last number: what it makes takes its place in the list.
 fn turn(user: usize, at: &mut Draft, random: &mut Random) {
-    if let Ok(counts) = check::due(&asks(user, at)) {
+    if let Some(counts) = check::counts_due(&asks(user, at)) {
         at.list.retain(|version| usize::from(version.owner) != user);
         at.list.push(Version::new(user as u8, some_handle(random), counts));
         at.list.sort_by_key(|version| version.owner);
@@ -46,7 +49,7 @@ impl Making {
         Making {
             users: request.users,
             user: request.user,
-            memory: request.memory.clone(),
+            file: request.file.clone(),
             counts: counts.to_vec(),
             handle: some_handle(random).to_vec(),
             out_len: RECORD,
@@ -56,7 +59,7 @@ impl Making {
     /// The one after an honest server's list. A check that is refused, at the last number, has given zeros.
     pub fn honest(random: &mut Random) -> Making {
         let request = Draft::honest(random).request();
-        let counts = check::due(&request).unwrap_or([0; USERS]);
+        let counts = check::counts_due(&request).unwrap_or([0; USERS]);
         Making::after(&request, counts, random)
     }
 
@@ -65,13 +68,13 @@ impl Making {
         loop {
             let mut draft = Draft::honest(random);
             let (users, own) = (usize::from(draft.users), usize::from(draft.user));
-            let Ok(older) = check::due(&asks(own, &draft)) else { continue };
+            let Some(older) = check::counts_due(&asks(own, &draft)) else { continue };
             for _ in 0..1 + random.below(3) {
                 let user = if random.below(4) == 0 { own } else { random.below(users) };
                 turn(user, &mut draft, random);
             }
             let request = asks(own, &draft);
-            if check::due(&request) != Ok(older) {
+            if check::counts_due(&request) != Some(older) {
                 return Making::after(&request, older, random);
             }
         }
@@ -86,19 +89,19 @@ impl Making {
                 continue;
             }
             let other = other_than(&[own], users, random);
-            let given = check::due(&asks(other, &draft));
+            let given = check::counts_due(&asks(other, &draft));
             for _ in 0..random.below(3) {
                 turn(random.below(users), &mut draft, random);
             }
-            if let Ok(counts) = given {
+            if let Some(counts) = given {
                 return Making::after(&asks(own, &draft), counts, random);
             }
         }
     }
 
-    /// What is remembered, if it has its length.
+    /// What is remembered, if the file has its length and does not say none.
     pub fn remembered(&self) -> Option<Version> {
-        (self.memory.len() == RECORD).then(|| Version::read(&self.memory))
+        (self.file.len() == FILE && self.file[1] != NONE).then(|| Version::read(&self.file[2..]))
     }
 
     /// The own count that is remembered, 0 for none.
@@ -110,14 +113,14 @@ impl Making {
     fn change_memory(&mut self, change: impl FnOnce(&mut Version)) {
         if let Some(mut memory) = self.remembered() {
             change(&mut memory);
-            self.memory = memory.write().to_vec();
+            self.file[2..].copy_from_slice(&memory.write());
         }
     }
 
     /// A mistake of a caller, which may leave a making step that is still good.
     pub fn mistake(&mut self, random: &mut Random) {
         let (users, own) = (usize::from(self.users), usize::from(self.user));
-        match random.below(16) {
+        match random.below(18) {
             // Off by one, or more.
             0 => self.counts[own] = self.counts[own].wrapping_add(1),
             1 | 2 => self.counts[own] = self.counts[own].wrapping_sub(1),
@@ -156,7 +159,7 @@ impl Making {
                 });
             }
             12 => {
-                self.memory.clear();
+                self.file = Memory::Nothing.write().to_vec();
                 if random.below(2) == 0 {
                     self.counts[own] = 1;
                 }
@@ -166,6 +169,9 @@ impl Making {
                 self.change_memory(|memory| memory.kind = kind);
             }
             14 => self.change_memory(|memory| memory.counts[own] = 0),
+            // The file says sent, pending or none of what is behind it.
+            15 => self.file[1] = pick(random, &[SENT, PENDING]),
+            16 => self.file[1] = pick(random, &[NONE, NONE, 3, 255]),
             _ => {
                 let at = random.below(USERS);
                 self.change_memory(|memory| memory.counts[at] ^= 1);
@@ -175,20 +181,18 @@ impl Making {
 
     /// One argument out of its range, or of a wrong length, or bytes that are damaged.
     pub fn damage(&mut self, random: &mut Random) {
-        match random.below(12) {
+        match random.below(13) {
             0 => self.users = pick(random, &[0, 17, 18, 32, 128, 255]),
             1 => self.user = pick(random, &[self.users, self.users.saturating_add(1), 16, 255]),
             2 => self.users = 1 + random.below(USERS) as u8,
             3 => self.user = random.below(USERS) as u8,
-            4 => other_length(&mut self.memory, RECORD, random),
             5 | 6 => {
                 let len = pick(random, &[0, 1, 4, 15, 15, 15, 17, 17, 32, 64, 98]);
                 self.counts.resize(len, 0);
             }
             7 => other_length(&mut self.handle, 32, random),
             8 | 9 => self.out_len = pick(random, &[0, 1, 34, 97, 97, 99, 99, 100, 196, 1_568]),
-            10 => any_byte(&mut self.memory, random),
-            _ => self.memory = vec![0; RECORD],
+            _ => damage_file(&mut self.file, random),
         }
     }
 

@@ -6,17 +6,15 @@ use native.Mathlib.Omega.{arith}
 use lib.Dec.{leb, eqb}
 use lib.ListN.{length}
 use Rattle.search.proofs.Search.{found}
-use Rattle.refusal.specs.Answer.{Answer, accepted, andThen}
+use Rattle.refusal.specs.Answer.{accepted}
 use Rattle.refusal.specs.Order.{tried}
-use Rattle.refusal.specs.Refusal.{refusal, said, given}
-use Rattle.refusal.specs.Result.{Gives, left}
+use Rattle.refusal.specs.Refusal.{refusal, said}
+use Rattle.refusal.specs.Result.{Gives}
 use Rattle.refusal.specs.declared.Check.{Check}
 use Rattle.refusal.specs.declared.Check.the-variants.{Passed, Refused}
-use Rattle.refusal.specs.declared.Given.the-variants.{Number, Refused as NotGiven}
 use Rattle.refusal.specs.declared.Refusal.{Refusal}
 use Rattle.refusal.specs.declared.Refusal.the-variants.{NoRoom, NotHeld}
 use Rattle.refusal.proofs.Match.{gives-refused as gives-refusal}
-use Rattle.refusal.proofs.Numbered.{ends, keeps}
 use Rattle.refusal.proofs.Stage.{stage-passed, stage-refused}
 use Rattle.sha256.specs.Sha256.{sha256}
 use Rattle.store.specs.Place.{place, blockIn, free, holds, placeOf, firstFree}
@@ -54,21 +52,6 @@ module _ (s : List ℕ) (u : ℕ) (b : List ℕ) (c : Check) (e : said c ≡ tri
         let k : placeOf s (sha256 b) ≡ 64 = omega (arith, holder, holder-most s (sha256 b)) in
         let a = admitted s u (leb (length b) 8192) c e q in
         rw (store-due s u b ∙ (stage-passed (admitSteps s u (leb (length b) 8192)) c e _ q ∙ free-due s u b (a .long) k)) g
-
--- What a call gives and leaves, by its answer: refused, or accepted with a number.
-module _ {A B : Type 0} (f : A → ℕ) (g : A → B) (before : B) {x : Answer A} where
-  pub done-refused :
-      (r : Refusal) → x ≡ refusal r →
-      (given (NotGiven r) ≡ andThen x (λ a. accepted (f a))) × (before ≡ left (andThen x (λ a. accepted (g a))) before)
-  done-refused r e = (
-    rw e (sym (ends r (λ (a : A). accepted (f a)))),
-    rw (e, ends r (λ (a : A). accepted (g a))) (sym (keeps r before)),
-  )
-
-  pub done-accepted :
-      {a : A} {n : ℕ} {after : B} → x ≡ accepted a → n ≡ f a → after ≡ g a →
-      (given (Number n) ≡ andThen x (λ a. accepted (f a))) × (after ≡ left (andThen x (λ a. accepted (g a))) before)
-  done-accepted e h k = (rw (e, h), rw (e, k))
 
 -- Retrieving.
 module _ (s hash : List ℕ) (room : ℕ) (c : Check) (e : said c ≡ tried (admitSteps s 0 (eqb (length hash) 32))) where

@@ -8,10 +8,20 @@ use Rattle.protocol.proofs.NewMeans.{new-means}
 use Rattle.protocol.proofs.CreateMeans.{create-means}
 use Rattle.protocol.proofs.MadeMeans.{made-means}
 use Rattle.protocol.proofs.CreateAfterCheck.{create-after-check}
+use Rattle.protocol.proofs.MemoryMeans.{over-means, back-means, back-into-means, pend-means, sent-means}
+use Rattle.protocol.proofs.CheckFileMeans.{check-file-means}
+use Rattle.protocol.proofs.CreateFileMeans.{create-file-means}
+use Rattle.protocol.proofs.Moved.{moved}
+use Rattle.protocol.proofs.RoundTrips.{round-trips}
+use Rattle.protocol.proofs.PendsMade.{pends-made}
+use Rattle.protocol.proofs.PendingAsSent.{pending-as-sent}
 use Rattle.protocol.proofs.CommitMeans.{commit-means}
 use Rattle.protocol.proofs.NoJoin.{no-join}
 use Rattle.protocol.proofs.MarkedSuffices.{marked-suffices}
 use Rattle.protocol.proofs.ForkedRun.{forked-run}
+use Rattle.protocol.proofs.OnePerCount.{one-per-count}
+use Rattle.protocol.proofs.Brings.{brings, sends-signed}
+use Rattle.protocol.proofs.CutRun.{cut-run}
 use Rattle.protocol.proofs.HonestTurns.{honest-turns}
 use Rattle.protocol.proofs.TurnsRun.{turns-run, turns-linked}
 use Rattle.protocol.proofs.TwoUsers.{two-users}
@@ -68,6 +78,10 @@ claims =
       no-join = no-join;
       marked-suffices = marked-suffices;
       forked-run = forked-run;
+      one-per-count = one-per-count;
+      brings = brings;
+      sends-signed = sends-signed;
+      cut-run = cut-run;
       honest-turns = honest-turns;
       turns-run = turns-run;
       turns-linked = turns-linked;
@@ -83,6 +97,17 @@ claims =
       create-means = create-means;
       made-means = made-means;
       create-after-check = create-after-check;
+      check-file-means = check-file-means;
+      create-file-means = create-file-means;
+      over-means = over-means;
+      back-means = back-means;
+      back-into-means = back-into-means;
+      sent-means = sent-means;
+      pend-means = pend-means;
+      pending-as-sent = pending-as-sent;
+      moved = moved;
+      round-trips = round-trips;
+      pends-made = pends-made;
       commit-means = commit-means;
       commits-counted = commits-counted;
       listings-ascend = listings-ascend;

@@ -8,9 +8,19 @@ use Rattle.protocol.specs.Standing.{StandingMeans, Flipped, OrdersRead, Standin
 use Rattle.protocol.specs.Meaning.{CheckMeans, NewMeans}
 use Rattle.protocol.specs.CreateMeaning.{CreateMeans, MadeMeans}
 use Rattle.protocol.specs.CreateAfterCheck.{CreateAfterCheck}
+use Rattle.protocol.specs.MemoryMeaning.{OverMeans, BackMeans, BackIntoMeans, PendMeans, SentMeans}
+use Rattle.protocol.specs.CheckFileMeaning.{CheckFileMeans}
+use Rattle.protocol.specs.CreateFileMeaning.{CreateFileMeans}
+use Rattle.protocol.specs.Moved.{Moved}
+use Rattle.protocol.specs.RoundTrips.{RoundTrips}
+use Rattle.protocol.specs.PendsMade.{PendsMade}
+use Rattle.protocol.specs.PendingAsSent.{PendingAsSent}
 use Rattle.protocol.specs.CommitMeaning.{CommitMeans}
 use Rattle.protocol.specs.NoJoin.{NoJoin, MarkedSuffices}
 use Rattle.protocol.specs.ForkedRun.{ForkedRun}
+use Rattle.protocol.specs.OnePerCount.{OnePerCount}
+use Rattle.protocol.specs.Brings.{Brings, SendsSigned}
+use Rattle.protocol.specs.CutRun.{CutRun}
 use Rattle.protocol.specs.Turns.{HonestTurns}
 use Rattle.protocol.specs.TurnsRun.{TurnsRun, TurnsLinked}
 use Rattle.protocol.specs.TwoUsers.{TwoUsers}
@@ -45,23 +55,32 @@ use Rattle.sundr.specs.Server.{ServerInBytes}
 use Rattle.claims.specs.Examples.{ExamplesHold, LargeExamples}
 
 pub record Claims : Type 1 where
-  -- No fork is joined: in every run of checks and making steps in which no honest user's record is forged, and each honest structure is made of
-  -- counts that an earlier check gave at its client, where two honest users signed structures that each lack the other's work, no check accepts
-  -- a list that shows both, or later ones.
+  -- No fork is joined: in every run of checks, making steps and writes, whole or absent, in which no honest user's record is forged, and each honest
+  -- structure is made of counts that an earlier check gave at its client, where two honest users signed structures that each lack the other's
+  -- work, no check accepts a list that shows both, or later ones. Signed is what a making step made and whose pending write came whole.
   pub no-join : NoJoin
   -- The order's own premise, of every marked record of an honest user in any list, is enough for it.
   pub marked-suffices : MarkedSuffices
   -- There is a run that meets the premise of this and forks, two checks being open at once, and the list that would join it is refused.
   pub forked-run : ForkedRun
-  -- Honest users who take turns through an honest server are refused exactly at the last count.
+  -- Of the structures whose pending write came whole, a client makes one for each own count, whatever is cut off and whatever counts it is given.
+  pub one-per-count : OnePerCount
+  -- What a client's file holds is the last structure that its user signed, none before the first.
+  pub brings : Brings
+  -- What a check wants sent again was signed.
+  pub sends-signed : SendsSigned
+  -- There is a run with cuts that meets the premise of all this: a structure is made and lost, another made and not sent, sent again, and taken.
+  pub cut-run : CutRun
+  -- Honest users who take turns through an honest server are refused exactly at the last count, and told to send again never, whether their files
+  -- are marked as sent or not.
   pub honest-turns : HonestTurns
-  -- What these turns leave in the clients' memories is what the run of their checks and making steps leaves there.
+  -- What these turns leave in the clients' files is what the run of their checks, making steps and sent writes leaves there.
   pub turns-run : TurnsRun
   -- And that run meets the premise that counts are of an earlier check at the same client.
   pub turns-linked : TurnsLinked
   -- There are such turns, and all are accepted.
   pub two-users : TwoUsers
-  -- After such turns each client remembers what the server holds of it, and all that is held is ordered.
+  -- After such turns each client's file is formed and holds what the server holds of it, and all that is held is ordered.
   pub steady-turns : SteadyTurns
   -- There is such a world in which a turn is refused, and turns that lead to such a refusal.
   pub last-turn : LastTurn
@@ -73,7 +92,7 @@ pub record Claims : Type 1 where
   pub orders-read : OrdersRead
   -- Each of the four occurs.
   pub standings-occur : StandingsOccur
-  -- A client's check accepts exactly where each condition holds, and refuses exactly for the first that does not.
+  -- A client's check on what it remembers accepts exactly where each condition holds, and refuses exactly for the first that does not.
   pub check-means : CheckMeans
   -- The new counts, each of the sixteen.
   pub new-means : NewMeans
@@ -84,6 +103,24 @@ pub record Claims : Type 1 where
   -- What a check gave, the making step takes, and of a refused check's zeros it makes nothing; whatever it takes, it makes a well formed structure
   -- of its user.
   pub create-after-check : CreateAfterCheck
+  -- The check on a memory file: when it gives counts, when it says "send again", and when and why it refuses.
+  pub check-file-means : CheckFileMeans
+  -- The making step on a file.
+  pub create-file-means : CreateFileMeans
+  -- The four other calls on a file: moving over and back, with what is then in the lent buffer, marking as sent, and the pending file of a structure.
+  pub over-means : OverMeans
+  pub back-means : BackMeans
+  pub back-into-means : BackIntoMeans
+  pub sent-means : SentMeans
+  pub pend-means : PendMeans
+  -- A pending file whose structure the list shows is judged as if it were sent, and the making step makes no difference.
+  pub pending-as-sent : PendingAsSent
+  -- Both calls answer the file of what was remembered as they answered that.
+  pub moved : Moved
+  -- Neither round trip loses anything, and each takes just what it should.
+  pub round-trips : RoundTrips
+  -- What a check gave, the making step on the same file takes, and what that makes can pend.
+  pub pends-made : PendsMade
   -- A server's commit accepts exactly where each condition holds, and replaces one record.
   pub commit-means : CommitMeans
   -- The sum of all held own counts is the number of commits accepted since the server's list was made.

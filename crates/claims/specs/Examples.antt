@@ -7,8 +7,7 @@ use Rattle.refusal.specs.Answer.{accepted, refused}
 use Rattle.itable.specs.Inode.{fileBlocks}
 use Rattle.itable.specs.Table.{blocks}
 use Rattle.protocol.specs.Version.{size}
-use Rattle.protocol.specs.Check.{check}
-use Rattle.protocol.specs.Create.{create}
+use Rattle.protocol.specs.MemoryFile.{fileOf, next, checkFile, createFile}
 use Rattle.protocol.specs.ForkedRun.{counting, twoCounts}
 
 -- What is due of a check: counts, and the structure that the making step makes of them; or a refusal.
@@ -25,11 +24,12 @@ pub data Example : Type 0 where
   -- The number of blocks of a file of so many bytes.
   file : ℕ → ℕ → Example
 
--- What an example says of the definitions: the counts are the check's, and where it accepts the bytes are the making step's.
+-- What an example says of the calls, on the file of what is remembered: the counts are the check's, and where it accepts the bytes are the
+-- making step's.
 abbrev pub Holds : Example → Type 0
 Holds (client-check N u mem list marks handle (makes counts new)) =
-    (check N u mem list marks ≡ accepted counts) × (create N u mem counts handle size ≡ accepted new)
-Holds (client-check N u mem list marks handle (refuses n p q)) = check N u mem list marks ≡ refused n p q
+    (checkFile N u (fileOf mem) list marks ≡ accepted (next counts)) × (createFile N u (fileOf mem) counts handle size ≡ accepted new)
+Holds (client-check N u mem list marks handle (refuses n p q)) = checkFile N u (fileOf mem) list marks ≡ refused n p q
 Holds (table files due) = blocks files ≡ due
 Holds (file bytes due) = fileBlocks bytes ≡ due
 

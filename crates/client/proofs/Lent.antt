@@ -11,13 +11,14 @@ use lib.Seq.{getD-set-same, getD-set-other}
 use borrow.Author.Count.{below-more}
 use Rattle.search.specs.Search.{find}
 use Rattle.layout.specs.Strings.{same}
+use Rattle.layout.proofs.Bytes.{four-past}
 use Rattle.layout.proofs.Parts.{part-past}
-use Rattle.protocol.specs.Version.{owner, wellFormed}
+use Rattle.protocol.specs.Version.{owner, count, wellFormed}
 use Rattle.protocol.specs.List.{records, recordAt, entry, wellPlaced}
 use Rattle.protocol.specs.Check.{current}
 use Rattle.version.specs.Version.{fields}
 use Rattle.version.specs.declared.Version.{Version}
-use Rattle.client.specs.Internal.Stages.{none}
+use Rattle.client.specs.Internal.Stages.{none, isBefore}
 
 -- The part of the list that the code lends.
 module _ (list : List ℕ) (i : ℕ) where
@@ -56,20 +57,40 @@ read-more list vs i x l h e =
     (λ m k. getD-set-other vs i m x none (λ q. omega arith) ∙ h m k)
     (getD-set-same vs i x none l ∙ (e ∙ ap fields (lent list i)))
 
+-- The place of the user's entry.
+abbrev found : ℕ → List ℕ → ℕ
+found u list = find (λ m. eqb (owner (recordAt list m)) u) 0 (records list)
+
 -- The user's entry, at the place i that was found, and the current structure.
 module _ (u : ℕ) (mem list : List ℕ) (i : ℕ) where
-  abbrev found : ℕ
-  found = find (λ m. eqb (owner (recordAt list m)) u) 0 (records list)
-
   no-bytes : (m : List ℕ) → eqb (length m) 0 ≡ same [] m
   unfolding same
   no-bytes [] = refl
   no-bytes (y ∷ ys) = ne-eqb (length (y ∷ ys)) 0 (λ q. omega arith)
 
-  pub no-entry : 98 * records list ≡ length list → i ≡ found → records list ≤ i → eqb (length mem) 0 ≡ current u mem list
+  pub no-entry : 98 * records list ≡ length list → i ≡ found u list → records list ≤ i → eqb (length mem) 0 ≡ current u mem list
   unfolding current entry
   no-entry w e h = rw (← e, part-past 98 list i (omega arith)) (no-bytes mem)
 
-  pub same-entry : i ≡ found → (b : Bool) → b ≡ same (lentAt list i) mem → b ≡ current u mem list
+  pub same-entry : i ≡ found u list → (b : Bool) → b ≡ same (lentAt list i) mem → b ≡ current u mem list
   unfolding current entry
   same-entry e b d = d ∙ rw (← e, ← lent list i)
+
+-- Its count, and whether this is one less than that of a pending structure.
+module _ (u : ℕ) (list : List ℕ) (i : ℕ) (e : i ≡ found u list) where
+  pub no-count : 98 * records list ≡ length list → records list ≤ i → 0 ≡ count (entry list u) u
+  unfolding entry
+  no-count w h = rw (← e, part-past 98 list i (omega arith)) (sym (four-past [] (34 + 4 * u) (omega arith)))
+
+  pub entry-count : (n : ℕ) → n ≡ count (lentAt list i) u → n ≡ count (entry list u) u
+  unfolding entry
+  entry-count n d = d ∙ rw (← e, ← lent list i)
+
+module _ (u own : ℕ) (p : Bool) (list : List ℕ) where
+  pub not-pending : p ≡ false → false ≡ isBefore u own p list
+  unfolding isBefore
+  not-pending f = rw f
+
+  pub one-less : p ≡ true → (n : ℕ) → n ≡ count (entry list u) u → eqb (n + 1) own ≡ isBefore u own p list
+  unfolding isBefore
+  one-less t n e = rw (t, e)

@@ -5,3 +5,4 @@ pub mod Lengths
 pub mod Lent
 pub mod Placed
 pub mod Tally
+pub mod Told

@@ -1,6 +1,6 @@
--- The second stage's tests, tried in order: which of them fails, and at which record; and what holds where none does.
+-- The second stage's tests of list and marks, tried in order: which of them fails, and at which record; and what holds where none does.
 use Prim.Native.Nat.{ℕ, _<_}
-use mathlib.Core.Bool.{Bool, true, false, not}
+use mathlib.Core.Bool.{true, not}
 use mathlib.Core.List.{List}
 use mathlib.Core.Path.{_≡_, sym, ap, _∙_}
 use native.Mathlib.Omega.{arith}
@@ -20,19 +20,18 @@ module _ (N u : ℕ) (mem list marks : List ℕ) where
   abbrev due : Answer Unit
   due = tried (formSteps N u mem list marks)
 
-  module _ (b : Bool) (e : b ≡ remembers N u mem) where
-    pub forgotten : b ≡ false → refused 3 16 0 ≡ due
-    unfolding formSteps inOrder
-    forgotten f = rw (sym e ∙ f)
-
-    module _ (t : b ≡ true) (k m : ℕ) (ek : k ≡ records list) (em : m ≡ find (λ i. not (wellPlaced N list i)) 0 k) where
+  module _
+      (t : remembers N u mem ≡ true)
+      (k m : ℕ)
+      (ek : k ≡ records list)
+      (em : m ≡ find (λ i. not (wellPlaced N list i)) 0 k)
+    where
       first : m ≡ find (λ i. not (wellPlaced N list i)) 0 (records list)
       first = em ∙ ap (find (λ i. not (wellPlaced N list i)) 0) ek
 
       pub misplaced : (m ≡ k → ⊥) → refused 3 m 0 ≡ due
       unfolding formSteps inOrder
-      misplaced h =
-          rw (sym e ∙ t, some-fails (wellPlaced N list) (records list) m first (λ q. h (q ∙ sym ek)), sym first)
+      misplaced h = rw (t, some-fails (wellPlaced N list) (records list) m first (λ q. h (q ∙ sym ek)), sym first)
 
       module _ (q : m ≡ k) (s : ℕ) (es : s ≡ find (λ i. not (eqb (getD marks i 0) 1)) 0 k) where
         marked : s ≡ find (λ i. not (eqb (getD marks i 0) 1)) 0 (records list)
@@ -42,7 +41,7 @@ module _ (N u : ℕ) (mem list marks : List ℕ) where
         unfolding formSteps inOrder
         unmarked h =
             rw (
-              sym e ∙ t,
+              t,
               none-fails (wellPlaced N list) (records list) m first (omega (arith, q, ek)),
               some-fails (λ i. eqb (getD marks i 0) 1) (records list) s marked (λ z. h (z ∙ sym ek)),
               sym marked,
@@ -52,7 +51,7 @@ module _ (N u : ℕ) (mem list marks : List ℕ) where
         unfolding formSteps inOrder
         all-formed z =
             rw (
-              sym e ∙ t,
+              t,
               none-fails (wellPlaced N list) (records list) m first (omega (arith, q, ek)),
               none-fails (λ i. eqb (getD marks i 0) 1) (records list) s marked (omega (arith, z, ek)),
             )

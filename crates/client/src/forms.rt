@@ -1,7 +1,9 @@
-// The second stage: refusals 3 and 4, which look at each record and each mark by itself.
+// The second stage: refusals 3 and 4, which look at each record and each mark by itself. That what is held is remembered
+// was seen with the file.
 ghost use mathlib.Core.Path.{_≡_};
-ghost use mathlib.Core.Bool.{not};
-ghost use Prim.Native.Nat.{_+_, _*_, _≤_};
+ghost use mathlib.Core.Bool.{true, not};
+ghost use mathlib.Core.List.{List};
+ghost use Prim.Native.Nat.{ℕ, _+_, _*_, _≤_};
 ghost use lib.Dec.{eqb};
 ghost use lib.ListN.{length, getD};
 ghost use Rattle.search.specs.Search.{find};
@@ -9,7 +11,7 @@ ghost use Rattle.refusal.specs.Order.{tried};
 ghost use Rattle.refusal.specs.Refusal.{said};
 ghost use Rattle.protocol.specs.Version.{size};
 ghost use Rattle.protocol.specs.List.{records as recordsOf, wellPlaced};
-ghost use Rattle.protocol.specs.Check.{formSteps};
+ghost use Rattle.protocol.specs.Check.{remembers, formSteps};
 use crate::records;
 use refusal::Check;
 use refusal::Refusal;
@@ -58,13 +60,11 @@ fn first_unmarked(marks: &[u8]) -> usize
     marks.len()
 }
 
-pub(crate) fn forms(users: u8, user: u8, memory: &[u8], list: &[u8], marks: &[u8]) -> Check
+pub(crate) fn forms(users: u8, list: &[u8], marks: &[u8]) -> Check
     requires { ⌜ length (now marks) ≡ recordsOf (now list) ⌝ }
-    ensures { λ r. ⌜ said r ≡ tried (formSteps users user (now (memory .entry)) (now (list .entry)) (now (marks .entry))) ⌝ }
+    ensures { λ r. ⌜ ((user : ℕ) (held : List ℕ) → remembers users user held ≡ true →
+        said r ≡ tried (formSteps users user held (now (list .entry)) (now (marks .entry)))) ⌝ }
 {
-    if !version::remembered(users, user, memory) {
-        return Check::Refused(Refusal::Malformed(16));
-    }
     let count = marks.len();
     let misplaced = first_misplaced(users, list, count);
     if misplaced != count {

@@ -1,10 +1,11 @@
 // The client's check of a version structure list: whether what the server sent is one history that
-// goes on from the client's own current structure, and the counts of the client's next structure if
-// it is.
+// goes on from the structure in the client's memory file, and the counts of the client's next structure
+// if it is; or whether the server's list is one step behind the pending structure in the file, which is
+// then to be sent again.
 //
-// The answer, its positions and the counts are those of the definition `check` of the crate
-// `protocol`, for every input. All that is lent is only read, and nothing is kept between calls: the
-// structure is made of the counts, and signed, when the caller wants it. Signatures are not verified
+// The answer, its positions, the counts and the bytes are those of the definition `checkFile` of the
+// crate `protocol`, for every input. All that is lent is only read, and nothing is kept between calls:
+// the structure is made of the counts, and signed, when the caller wants it. Signatures are not verified
 // here: each record comes with a mark.
 mod forms;
 mod next;
@@ -12,41 +13,76 @@ mod order;
 mod records;
 mod sizes;
 
-ghost use lib.ListN.{replicate};
-ghost use Rattle.protocol.specs.Check.{check as checkOf};
-ghost use Rattle.refusal.specs.Result.{Gives};
+ghost use Rattle.refusal.specs.Refusal.{refusal};
+ghost use Rattle.protocol.specs.MemoryFile.{checkFile};
+ghost use Rattle.client.specs.Judged.{Judges};
 use refusal::Check;
+use refusal::Refusal;
+use version::SIZE;
 
-// The check's answer, and the counts of the next structure: sixteen zeros where it is refused.
+// What a check says: the list is accepted, and the counts of the next structure are given; it is not
+// accepted, and the structure in the file is to be sent again; or the check is refused.
+pub enum Verdict {
+    Next,
+    Again,
+    Refused(Refusal),
+}
+
+// The check's verdict; the counts of the next structure, sixteen zeros unless it is `Next`; and the bytes
+// to be sent again, 98 zeros unless it is `Again`.
 pub struct Judged {
-    pub answer: Check,
+    pub verdict: Verdict,
     pub counts: [u32; 16],
+    pub again: [u8; SIZE],
+}
+
+// A refusal, with no counts and no bytes.
+fn refused(r: Refusal) -> Judged
+    ensures { λ j. ⌜ Judges (refusal r) j ⌝ }
+{
+    Judged {
+        verdict: Verdict::Refused(r),
+        counts: [0u32; 16],
+        again: [0u8; SIZE],
+    }
 }
 
 // The check of `list` for `user`, of `users` users (the desk's verdict).
 //
-// `memory` is the client's current structure (98 bytes), or no bytes for none; `list` the server's
-// records end to end; `marks` one byte for each record, 1 for a good signature. The caller owns every
-// buffer, and none is written. Passed: `counts` are those of the client's next structure. Refused,
-// with the first refusal of the paper's order: they are zeros. Any lengths and any bytes are taken.
-pub fn check(users: u8, user: u8, memory: &[u8], list: &[u8], marks: &[u8]) -> Judged
-    ensures { λ r. ⌜
-        Gives (checkOf users user (now (memory .entry)) (now (list .entry)) (now (marks .entry))) (replicate 16 0) (r .counts) (r .answer)
-        ⌝ }
+// `file` is the client's memory file (100 bytes); `list` the server's records end to end; `marks` one byte
+// for each record, 1 for a good signature. The caller owns every buffer, and none is written. `Refused` is
+// the first refusal of the paper's order. Any lengths and any bytes are taken.
+pub fn check(users: u8, user: u8, file: &[u8], list: &[u8], marks: &[u8]) -> Judged
+    ensures { λ r. ⌜ Judges (checkFile users user (now (file .entry)) (now (list .entry)) (now (marks .entry))) r ⌝ }
 {
-    let s = sizes::sizes(users, user, memory, list, marks);
-    let Check::Passed = s else {
+    let s = sizes::sizes(users, user, list, marks);
+    if let Check::Refused(r) = s {
+        return refused(r);
+    }
+    let g = memory::given::given(users, user, file);
+    if let Check::Refused(r) = g {
+        return refused(r);
+    }
+    let f = forms::forms(users, list, marks);
+    if let Check::Refused(r) = f {
+        return refused(r);
+    }
+    let held = memory::held(file);
+    let o = order::order(user, held, memory::pending(file), list);
+    let verdict = o.verdict;
+    let counts = o.counts;
+    let mut again = [0u8; SIZE];
+    let Verdict::Again = verdict else {
         return Judged {
-            answer: s,
-            counts: [0u32; 16],
+            verdict,
+            counts,
+            again,
         };
     };
-    let f = forms::forms(users, user, memory, list, marks);
-    let Check::Passed = f else {
-        return Judged {
-            answer: f,
-            counts: [0u32; 16],
-        };
-    };
-    order::order(user, memory, list)
+    bytes::copy(held, &mut again);
+    Judged {
+        verdict,
+        counts,
+        again,
+    }
 }

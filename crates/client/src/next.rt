@@ -10,12 +10,12 @@ use version::SIZE;
 
 // The counts of the next structure. The records are gone through from the last to the first, so
 // that an owner's first record is the one that stays.
-pub(crate) fn counts(user: u8, memory: &[u8], list: &[u8]) -> [u32; 16]
+pub(crate) fn counts(user: u8, held: &[u8], list: &[u8]) -> [u32; 16]
     requires { ⌜ user < 16 ⌝ }
-    requires { ⌜ count (now memory) user < lastCount ⌝ }
+    requires { ⌜ count (now held) user < lastCount ⌝ }
     requires { ⌜ size * recordsOf (now list) ≡ length (now list) ⌝ }
     requires { ⌜ ((i : ℕ) → i < recordsOf (now list) → owner (recordAt (now list) i) < 16) ⌝ }
-    ensures { λ r. ⌜ r ≡ nextCounts user (now (memory .entry)) (now (list .entry)) ⌝ }
+    ensures { λ r. ⌜ r ≡ nextCounts user (now (held .entry)) (now (list .entry)) ⌝ }
 {
     let mut counts = [0u32; 16];
     let mut i = list.len() / SIZE;
@@ -24,6 +24,6 @@ pub(crate) fn counts(user: u8, memory: &[u8], list: &[u8]) -> [u32; 16]
         let v = records::owner(list, i) as usize;
         counts[v] = records::own_count(list, i);
     }
-    counts[user as usize] = version::count(memory, user) + 1;
+    counts[user as usize] = version::count(held, user) + 1;
     counts
 }

@@ -1,22 +1,20 @@
-// The third stage: refusals 5, 6 and 7, by which the list goes on from the current structure.
+// The third stage: "send again", and refusals 5, 6 and 7, by which the list goes on from the structure that is held.
 ghost use mathlib.Core.Path.{_≡_};
 ghost use mathlib.Core.Bool.{_||_};
 ghost use mathlib.Core.List.{[], _∷_};
 ghost use Prim.Native.Nat.{ℕ, _+_, _*_, _≤_, _<_};
 ghost use lib.Dec.{eqb};
-ghost use lib.ListN.{length, getD, replicate};
+ghost use lib.ListN.{length, getD};
 ghost use Rattle.layout.specs.Bytes.{values};
 ghost use Rattle.search.specs.Search.{find};
-ghost use Rattle.refusal.specs.Answer.{accepted};
-ghost use Rattle.refusal.specs.Order.{inOrder, tried};
+ghost use Rattle.refusal.specs.Order.{tried};
 ghost use Rattle.refusal.specs.Refusal.{said};
-ghost use Rattle.refusal.specs.Result.{Gives};
-ghost use Rattle.protocol.specs.Version.{size, owner, countsBefore, countsStrictlyBefore};
-ghost use Rattle.protocol.specs.List.{records as recordsOf, recordAt};
-ghost use Rattle.protocol.specs.Check.{orderSteps, pairStep, nextCounts, current as currentOf};
+ghost use Rattle.protocol.specs.Version.{size, owner, count, countsBefore, countsStrictlyBefore};
+ghost use Rattle.protocol.specs.List.{records as recordsOf, recordAt, entry as entryOf};
+ghost use Rattle.protocol.specs.Check.{pairStep, current as currentOf};
 ghost use Rattle.version.specs.Version.{fields, countIn};
-ghost use Rattle.client.specs.Internal.Stages.{none};
-use crate::Judged;
+ghost use Rattle.client.specs.Internal.Stages.{none, isBefore, goesOn, Orders};
+use crate::Verdict;
 use crate::records;
 use refusal::Check;
 use refusal::Refusal;
@@ -39,18 +37,42 @@ fn entry(user: u8, list: &[u8], n: usize) -> usize
     n
 }
 
-// Whether the list's record of the user and the current structure are the same bytes, or neither exists.
-fn current(user: u8, memory: &[u8], list: &[u8]) -> bool
+// Whether the list's record of the user and the structure that is held are the same bytes, or neither exists.
+fn current(user: u8, held: &[u8], list: &[u8]) -> bool
     requires { ⌜ size * recordsOf (now list) ≡ length (now list) ⌝ }
-    ensures { λ r. ⌜ r ≡ currentOf user (now (memory .entry)) (now (list .entry)) ⌝ }
+    ensures { λ r. ⌜ r ≡ currentOf user (now (held .entry)) (now (list .entry)) ⌝ }
 {
     let n = list.len() / SIZE;
     let i = entry(user, list, n);
     if n <= i {
-        return memory.len() == 0;
+        return held.len() == 0;
     }
     let record = &list[SIZE * i..SIZE * i + SIZE];
-    layout::equal(record, memory)
+    layout::equal(record, held)
+}
+
+// How many operations of the user the list's record of the user counts; none where there is no record.
+fn listed_count(user: u8, list: &[u8]) -> u32
+    requires { ⌜ size * recordsOf (now list) ≡ length (now list) ⌝ }
+    ensures { λ r. ⌜ r ≡ count (entryOf (now (list .entry)) user) user ⌝ }
+{
+    let n = list.len() / SIZE;
+    let i = entry(user, list, n);
+    if n <= i {
+        return 0;
+    }
+    version::count(&list[SIZE * i..SIZE * i + SIZE], user)
+}
+
+// Whether what is held, with this own count, is pending and the list shows the structure before it.
+fn is_before(user: u8, own: u32, pending: bool, list: &[u8]) -> bool
+    requires { ⌜ size * recordsOf (now list) ≡ length (now list) ⌝ }
+    ensures { λ r. ⌜ r ≡ isBefore user own pending (now (list .entry)) ⌝ }
+{
+    if !pending {
+        return false;
+    }
+    listed_count(user, list) as u64 + 1 == own as u64
 }
 
 // The list as an array of structures.
@@ -130,38 +152,51 @@ fn pairs(list: &[u8], next: [u32; 16]) -> Check
     Check::Passed
 }
 
-pub(crate) fn order(user: u8, memory: &[u8], list: &[u8]) -> Judged
+// The third stage's verdict, and the counts of the next structure: sixteen zeros unless the verdict is `Next`.
+pub(crate) struct Ordered {
+    pub(crate) verdict: Verdict,
+    pub(crate) counts: [u32; 16],
+}
+
+pub(crate) fn order(user: u8, held: &[u8], pending: bool, list: &[u8]) -> Ordered
     requires { ⌜ user < 16 ⌝ }
     requires { ⌜ size * recordsOf (now list) ≡ length (now list) ⌝ }
     requires { ⌜ recordsOf (now list) ≤ 16 ⌝ }
     requires { ⌜ ((i : ℕ) → i < recordsOf (now list) → owner (recordAt (now list) i) < 16) ⌝ }
     ensures { λ r. ⌜
-        Gives
-        (inOrder (orderSteps user (now (memory .entry)) (now (list .entry))) (accepted (nextCounts user (now (memory .entry)) (now (list .entry)))))
-        (replicate 16 0) (r .counts) (r .answer)
+        Orders (goesOn user (now (held .entry)) pending (now (list .entry))) (now (held .entry)) (r .verdict) (r .counts)
         ⌝ }
 {
-    let listed = current(user, memory, list);
-    let own = version::count(memory, user);
+    let listed = current(user, held, list);
+    let own = version::count(held, user);
     if !listed {
-        return Judged {
-            answer: Check::Refused(Refusal::NotCurrent),
+        if is_before(user, own, pending, list) {
+            return Ordered {
+                verdict: Verdict::Again,
+                counts: [0u32; 16],
+            };
+        }
+        return Ordered {
+            verdict: Verdict::Refused(Refusal::NotCurrent),
             counts: [0u32; 16],
         };
     }
     if own == 4294967295 {
-        return Judged {
-            answer: Check::Refused(Refusal::LastVersion),
+        return Ordered {
+            verdict: Verdict::Refused(Refusal::LastVersion),
             counts: [0u32; 16],
         };
     }
-    let counts = crate::next::counts(user, memory, list);
+    let counts = crate::next::counts(user, held, list);
     let answer = pairs(list, counts);
-    let Check::Passed = answer else {
-        return Judged {
-            answer,
+    if let Check::Refused(r) = answer {
+        return Ordered {
+            verdict: Verdict::Refused(r),
             counts: [0u32; 16],
         };
-    };
-    Judged { answer, counts }
+    }
+    Ordered {
+        verdict: Verdict::Next,
+        counts,
+    }
 }

@@ -1,11 +1,13 @@
-// The second stage: refusals 3, 6 and 16, of the current structure and of the counts.
+// The third stage: refusals 3, 6 and 16, of the counts, where the structure that is held is judged already.
 ghost use mathlib.Core.Path.{_≡_};
+ghost use mathlib.Core.Bool.{true};
 ghost use Prim.Native.Nat.{_-_, _≤_};
 ghost use lib.Dec.{eqb};
 ghost use lib.ListN.{length, getD};
 ghost use Rattle.search.specs.Search.{every};
 ghost use Rattle.refusal.specs.Order.{tried};
 ghost use Rattle.refusal.specs.Refusal.{said};
+ghost use Rattle.protocol.specs.Check.{remembers};
 ghost use Rattle.protocol.specs.Create.{countSteps};
 ghost use Rattle.protocol.specs.Meaning.{Users};
 use refusal::Check;
@@ -31,11 +33,9 @@ fn zero_from(counts: &[u32], from: usize) -> bool
 pub(crate) fn counts(users: u8, user: u8, memory: &[u8], counts: &[u32]) -> Check
     requires { ⌜ Users users user ⌝ }
     requires { ⌜ length (now counts) ≡ 16 ⌝ }
+    requires { ⌜ remembers users user (now memory) ≡ true ⌝ }
     ensures { λ r. ⌜ said r ≡ tried (countSteps users user (now (memory .entry)) (now (counts .entry))) ⌝ }
 {
-    if !version::remembered(users, user, memory) {
-        return Check::Refused(Refusal::Malformed(16));
-    }
     if !zero_from(counts, users as usize) {
         return Check::Refused(Refusal::Malformed(0));
     }

@@ -1,4 +1,5 @@
-// The first stage: refusals 1 and 2, which look at the users and at lengths only.
+// The first stage: refusals 1 and 2, which look at the users and at the lengths of all but the file.
+ghost use mathlib.Core.List.{[]};
 ghost use mathlib.Core.Path.{_≡_};
 ghost use Rattle.refusal.specs.Order.{tried};
 ghost use Rattle.refusal.specs.Refusal.{said};
@@ -7,23 +8,13 @@ use refusal::Check;
 use refusal::Refusal;
 use version::SIZE;
 
-pub(crate) fn lengths(
-    users: u8,
-    user: u8,
-    memory: &[u8],
-    counts: &[u32],
-    handle: &[u8],
-    room: usize,
-) -> Check
+pub(crate) fn lengths(users: u8, user: u8, counts: &[u32], handle: &[u8], room: usize) -> Check
     ensures { λ r. ⌜
-        said r ≡ tried (lengthSteps users user (now (memory .entry)) (now (counts .entry)) (now (handle .entry)) room)
+        said r ≡ tried (lengthSteps users user [] (now (counts .entry)) (now (handle .entry)) room)
         ⌝ }
 {
     if !version::is_user(users, user) {
         return Check::Refused(Refusal::Users);
-    }
-    if !version::none_or_one(memory.len()) {
-        return Check::Refused(Refusal::Length(0));
     }
     if counts.len() != 16 {
         return Check::Refused(Refusal::Length(0));

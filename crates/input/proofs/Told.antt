@@ -1,19 +1,26 @@
 -- The report of an answer, and the answer of the whole input.
-use Prim.Native.Nat.{ℕ, _-_, _/_}
+use Prim.Native.Nat.{ℕ, _-_, _/_, _≤_}
 use mathlib.Core.Bool.{true, false}
-use mathlib.Core.List.{List}
+use mathlib.Core.List.{List, []}
+use mathlib.Core.Logic.{_⊎_, inl, inr, ⊎-elim}
 use mathlib.Core.Path.{_≡_, refl, sym, ap, _∙_, subst}
 use native.Mathlib.Omega.{arith}
 use lib.ListN.{length, take, drop, replicate, length-drop}
-use lib.Seq.{take-all}
+use lib.Seq.{take-all, length-take-le}
 use Rattle.protocol.specs.Check.{check}
 use Rattle.protocol.specs.Create.{create}
+use Rattle.protocol.specs.MemoryFile.{fileOf, Verdict as Due, checkFile, createFile}
+use Rattle.protocol.specs.Moved.{asVerdict}
+use Rattle.protocol.proofs.FileCalls.{counts-of, refusal-of, not-again}
+use Rattle.protocol.proofs.Moved.{moved}
+use Rattle.client.specs.Judged.{told, Judges}
+use Rattle.client.specs.declared.Judged.{Judged}
+use Rattle.client.specs.declared.Verdict.{Verdict}
+use Rattle.client.specs.declared.Verdict.the-variants.{Next, Again, Refused as NotNow}
 use Rattle.refusal.specs.Answer.{Answer, accepted, andThen}
-use Rattle.refusal.specs.Refusal.{refusal, checked}
+use Rattle.refusal.specs.Refusal.{checked}
 use Rattle.refusal.specs.declared.Refusal.{Refusal}
-use Rattle.refusal.proofs.Match.{was-passed, was-refused}
 use Rattle.refusal.proofs.Numbered.{numbered}
-use Rattle.refusal.proofs.Stage.{Went}
 use Rattle.refusal.specs.declared.Check.{Check}
 use Rattle.refusal.specs.declared.Check.the-variants.{Passed, Refused as Stopped}
 use Rattle.refusal.specs.Result.{Gives}
@@ -39,29 +46,52 @@ told-refused N u new c r e =
     let q = numbered r .3 (List ℕ) in
     rw e (record { says = rw q; counts = rw q; users = refl; user = refl })
 
--- The answer of the two calls is the one that the definition gives: that of a refused check, or of the making step after an accepted one.
+-- What is remembered in an input is none, or as long as a structure.
+pub memory-long :
+    (input : List ℕ) (start : ℕ) → start ≤ length input → (start ≡ 35) ⊎ (start ≡ 133) →
+    (length (take (start - 35) (drop 35 input)) ≡ 0) ⊎ (length (take (start - 35) (drop 35 input)) ≡ 98)
+memory-long input start l h =
+    let e = length-take-le (start - 35) (drop 35 input) (omega (arith, length-drop 35 input)) in
+    ⊎-elim (λ a. inl (e ∙ omega arith)) (λ a. inr (e ∙ omega arith)) h
+
+-- The answer of the two calls on the file of what is remembered is the one that the definition gives: that of a refused check, or of the making
+-- step after an accepted one. The file is never answered with "send again".
 module _
     (N u : ℕ)
-    (mem list marks handle before counts : List ℕ)
-    (c : Check)
-    (r : Report)
-    (g : Gives (check N u mem list marks) before counts c)
+    (mem f list marks : List ℕ)
+    (long : (length mem ≡ 0) ⊎ (length mem ≡ 98))
+    (of : f ≡ fileOf mem)
+    (j : Judged)
+    (g : Judges (checkFile N u f list marks) j)
   where
-    pub told-check : (new : List ℕ) → Went 1 c → Reports (due new c) N u r → Reports (answered N u mem list marks handle) N u r
-    unfolding answered
-    told-check new h p =
-        let w = was-refused c h in
-        let q = numbered (w .0) .3 (List ℕ) in
-        let d : check N u mem list marks ≡ refusal (w .0) = sym (g .answers) ∙ ap (checked counts) (w .1) in
-        rw (d, q) (rw (w .1, q) at p)
+    -- What is judged, as the verdict that it is.
+    judged-as : {v : Verdict} → j .verdict ≡ v → asVerdict (check N u mem list marks) ≡ told v (j .counts) (j .again)
+    judged-as e =
+        sym (moved .check-moved N u mem list marks long) ∙
+        (ap (λ (x : List ℕ). checkFile N u x list marks) (sym of) ∙ (sym (g .says) ∙ ap (λ (v : Verdict). told v (j .counts) (j .again)) e))
 
-    pub told-making :
-        (old after : List ℕ) (m : Check) → Went 0 c → Gives (create N u mem counts handle 98) old after m → Reports (due after m) N u r →
-        Reports (answered N u mem list marks handle) N u r
-    unfolding answered
-    told-making old after m h k p =
-        let d : check N u mem list marks ≡ accepted counts = sym (g .answers) ∙ ap (checked counts) (was-passed c h) in
-        rw d (subst (λ (d : Answer (List ℕ)). Reports (answer (andThen d (λ s. accepted (sixteen s)))) N u r) (k .answers) p)
+    pub told-again : {A : Type 0} → j .verdict ≡ Again → A
+    told-again e = absurd (not-again (check N u mem list marks) (j .again) (judged-as e))
+
+    module _ (handle : List ℕ) (r : Report) where
+      pub told-check :
+          (s : Refusal) → j .verdict ≡ NotNow s → Reports (due [] (Stopped s)) N u r →
+          Reports (answered N u mem list marks handle) N u r
+      unfolding answered
+      told-check s e p =
+          let q = numbered s in
+          rw (refusal-of (check N u mem list marks) (q .0) (q .1) (q .2) (judged-as e ∙ q .3 Due)) (rw (q .3 (List ℕ)) at p)
+
+      pub told-making :
+          (old after : List ℕ) (m : Check) → j .verdict ≡ Next → Gives (createFile N u f (j .counts) handle 98) old after m →
+          Reports (due after m) N u r → Reports (answered N u mem list marks handle) N u r
+      unfolding answered
+      told-making old after m e k p =
+          let made : checked after m ≡ create N u mem (j .counts) handle 98 =
+          k .answers ∙ (ap (λ (x : List ℕ). createFile N u x (j .counts) handle 98) of ∙ moved .create-moved N u mem (j .counts) handle 98 long)
+          in
+          rw (counts-of (check N u mem list marks) (j .counts) (judged-as e))
+          (subst (λ (d : Answer (List ℕ)). Reports (answer (andThen d (λ s. accepted (sixteen s)))) N u r) made p)
 
 -- The parts that the code lends are the input's.
 module _

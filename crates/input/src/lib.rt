@@ -6,12 +6,14 @@
 // every input of any length.
 ghost use mathlib.Core.Path.{_≡_};
 ghost use mathlib.Core.Bool.{true};
+ghost use mathlib.Core.Logic.{_⊎_};
 ghost use Prim.Native.Nat.{_*_, _-_, _≤_};
 ghost use lib.ListN.{length, take, drop};
 ghost use Rattle.refusal.specs.Answer.{accepted, andThen};
 ghost use Rattle.refusal.specs.Refusal.{checked as checkedOf};
 ghost use Rattle.input.specs.Form.{users as usersOf, user as userOf, handle as handleOf, formed as formedOf, behindMemory, firstMarks, firstRecords};
 ghost use Rattle.input.specs.Report.{Judgement, sixteen, answered, judgement, Reports};
+use client::Verdict;
 use protocol::RECORDS;
 use refusal::Check;
 use refusal::Refusal;
@@ -47,7 +49,7 @@ pub struct Report {
 
 // The place after the remembered structure, or after the flag that says that there is none.
 fn behind_memory(flag: u8) -> usize
-    ensures { λ r. ⌜ (r ≡ behindMemory flag) × (35 ≤ r) ⌝ }
+    ensures { λ r. ⌜ (r ≡ behindMemory flag) × (35 ≤ r) × ((r ≡ 35) ⊎ (r ≡ 133)) ⌝ }
 {
     if flag == 1 {
         return AFTER_MEMORY;
@@ -124,10 +126,13 @@ fn tell(users: u8, user: u8, answer: Check, new: &[u8]) -> Report
 }
 
 // The report on the check of these marks and records, and on the making step after it, with all else
-// as it stands in the input.
+// as it stands in the input. Both take a memory file: that of what is remembered, which is laid out
+// unjudged, since it is the check that judges it, in its turn. Such a file is not pending, so that the
+// check never says "send again"; 5 would be told.
 fn ask(input: &[u8], start: usize, list: &[u8], marks: &[u8]) -> Report
     requires { ⌜ 35 ≤ start ⌝ }
     requires { ⌜ start ≤ length (now input) ⌝ }
+    requires { ⌜ (start ≡ 35) ⊎ (start ≡ 133) ⌝ }
     ensures { λ r. ⌜ Reports
         (answered (usersOf (now (input .entry))) (userOf (now (input .entry))) (take (start - 35) (drop 35 (now (input .entry))))
         (now (list .entry)) (now (marks .entry)) (handleOf (now (input .entry))))
@@ -135,22 +140,19 @@ fn ask(input: &[u8], start: usize, list: &[u8], marks: &[u8]) -> Report
 {
     let users = input[0];
     let user = input[1];
-    let mut new = [0u8; SIZE];
-    let judged = client::check(users, user, &input[MEMORY..start], list, marks);
-    let answer = judged.answer;
-    let Check::Passed = answer else {
-        return tell(users, user, answer, &new);
-    };
-    let counts = judged.counts;
-    let made = create::create(
-        users,
-        user,
-        &input[MEMORY..start],
-        &counts,
-        &input[HANDLE..FLAG],
-        &mut new,
-    );
-    tell(users, user, made, &new)
+    let file = memory::file_of(&input[MEMORY..start]);
+    let judged = client::check(users, user, &file, list, marks);
+    let verdict = judged.verdict;
+    match verdict {
+        Verdict::Next => {
+            let counts = judged.counts;
+            let mut new = [0u8; SIZE];
+            let made = create::create(users, user, &file, &counts, &input[HANDLE..FLAG], &mut new);
+            tell(users, user, made, &new)
+        }
+        Verdict::Again => tell(users, user, Check::Refused(Refusal::NotCurrent), &file),
+        Verdict::Refused(refusal) => tell(users, user, Check::Refused(refusal), &file),
+    }
 }
 
 // The report on an input of the stated form.

@@ -69,13 +69,13 @@ module _ (N : ℕ) (mem : List ℕ) (c : Call) where
         ),
       ))
 
-  placed-stage :
+  pub placed-stage :
       Stage (unlessEach (wellPlaced N (c .list)) (records (c .list)) 3 ∷ []) ((i : ℕ) → i < records (c .list) → WellPlaced N (c .list) i)
       (AtFirst (WellPlaced N (c .list)) (records (c .list)) 3)
   placed-stage =
       each-means (wellPlaced N (c .list)) (records (c .list)) 3 (λ i l. well-placed N (c .list) i .0) (λ i l. well-placed N (c .list) i .1)
 
-  marked-stage :
+  pub marked-stage :
       Stage (unlessEach (λ i. eqb (getD (c .marks) i 0) 1) (records (c .list)) 4 ∷ [])
       ((i : ℕ) → i < records (c .list) → Marked (c .marks) i)
       (AtFirst (Marked (c .marks)) (records (c .list)) 4)
@@ -83,7 +83,7 @@ module _ (N : ℕ) (mem : List ℕ) (c : Call) where
       each-means (λ i. eqb (getD (c .marks) i 0) 1) (records (c .list)) 4 (λ i l. eqb-true (getD (c .marks) i 0) 1)
       (λ i l. eq-eqb (getD (c .marks) i 0) 1)
 
-  current-stage :
+  pub current-stage :
       ToMarked N mem c →
       Stage (alike (current (c .user) mem (c .list) ∷ []) 5 0 0) (Current (c .user) mem (c .list))
       (Unless (Current (c .user) mem (c .list)) 5 0 0)
@@ -91,7 +91,7 @@ module _ (N : ℕ) (mem : List ℕ) (c : Call) where
       let m = current-means N (c .list) (w .0 .0 .0 .1 .whole) (w .0 .1) (c .user) mem in
       tests-mean (current (c .user) mem (c .list) ∷ []) 5 0 0 (λ t. m .0 (t .0)) (λ k. (m .1 k, tt))
 
-  pairs-stage :
+  pub pairs-stage :
       Stage
       (unless (everyPair (ordered (c .list) (newOf mem c)) (records (c .list))) 7
       (firstLow (ordered (c .list) (newOf mem c)) (records (c .list))) (firstHigh (ordered (c .list) (newOf mem c)) (records (c .list))) ∷

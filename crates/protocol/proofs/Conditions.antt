@@ -23,10 +23,10 @@ use Rattle.protocol.specs.Meaning.{WellFormed, StrictlyBefore, StrictlyB
 use Rattle.protocol.proofs.Version.{at-most, at-most-intro, before-at, before-intro, strictly-intro}
 use Rattle.protocol.proofs.List.{entry-cases}
 
-both-intro : (a b : Bool) → a ≡ true → b ≡ true → (a && b) ≡ true
+pub both-intro : (a b : Bool) → a ≡ true → b ≡ true → (a && b) ≡ true
 both-intro a b p q = rw (p, q)
 
-no-bytes : (x : List ℕ) → length x ≡ 0 → x ≡ []
+pub no-bytes : (x : List ℕ) → length x ≡ 0 → x ≡ []
 no-bytes [] e = refl
 no-bytes (b ∷ x) e = absurd (omega arith)
 

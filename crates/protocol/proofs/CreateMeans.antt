@@ -32,12 +32,12 @@ pub next-is : (u : ℕ) (mem counts : List ℕ) → getD counts u 0 ≡ count me
 next-is u mem counts e = record { than-remembered = λ n. e; than-none = λ z. e ∙ rw (none-counted mem u z) }
 
 module _ (N : ℕ) (mem : List ℕ) (m : Making) where
-  abbrev lengthTests : List Bool
+  abbrev pub lengthTests : List Bool
   lengthTests =
       (eqb (length mem) 0 || eqb (length mem) size) ∷
       eqb (length (m .counts)) 16 ∷ eqb (length (m .handle)) 32 ∷ eqb (m .room) size ∷ []
 
-  lengths-stage : Stage (alike lengthTests 2 0 0) (Lengths mem m) (Unless (Lengths mem m) 2 0 0)
+  pub lengths-stage : Stage (alike lengthTests 2 0 0) (Lengths mem m) (Unless (Lengths mem m) 2 0 0)
   lengths-stage =
       tests-mean lengthTests 2 0 0
       (λ t.
@@ -83,10 +83,10 @@ module _ (N : ℕ) (mem : List ℕ) (m : Making) where
   length-stages = and-then _ _ (users-stage N (m .user)) (λ w. lengths-stage)
 
   -- The second: what is remembered, and the counts.
-  abbrev Countable : Type 0
+  abbrev pub Countable : Type 0
   Countable = ((Remembered N (m .user) mem × NoneBeyond N (m .counts)) × NotLast (m .user) mem) × OneMore (m .user) mem (m .counts)
 
-  abbrev Counted : ℕ → ℕ → ℕ → Type 0
+  abbrev pub Counted : ℕ → ℕ → ℕ → Type 0
   Counted =
       Either ((Remembered N (m .user) mem × NoneBeyond N (m .counts)) × NotLast (m .user) mem)
       (Either (Remembered N (m .user) mem × NoneBeyond N (m .counts))
@@ -94,7 +94,7 @@ module _ (N : ℕ) (mem : List ℕ) (m : Making) where
       (Unless (NotLast (m .user) mem) 6 0 0))
       (Unless (OneMore (m .user) mem (m .counts)) 16 0 0)
 
-  count-stages : N ≤ 16 → Stage (countSteps N (m .user) mem (m .counts)) Countable Counted
+  pub count-stages : N ≤ 16 → Stage (countSteps N (m .user) mem (m .counts)) Countable Counted
   unfolding countSteps
   count-stages small =
       and-then _ _

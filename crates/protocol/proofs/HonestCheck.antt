@@ -44,7 +44,7 @@ use Rattle.protocol.proofs.HonestNext.{
   next-proper,
 }
 
-module _ {N : ℕ} {s : Server} {memory : ℕ → List ℕ} {u : ℕ} {handle : List ℕ} (r : Ready N s memory u handle) where
+module _ {N : ℕ} {s : Server} {file : ℕ → List ℕ} {u : ℕ} {handle : List ℕ} (r : Ready N s file u handle) where
   -- The user's call on the list of all records held, each with mark 1.
   abbrev pub honest-call : Call
   honest-call =

@@ -1,4 +1,4 @@
--- The state after an honest turn's commit is steady again: the new structure is held and remembered, and all others held are before it.
+-- The state after an honest turn's commit is steady again: the new structure is held, there and in the user's file, and all others held are before it.
 use Prim.Native.Nat.{ℕ, _≤_, _<_}
 use mathlib.Core.Bool.{cond}
 use mathlib.Core.List.{List}
@@ -6,11 +6,14 @@ use mathlib.Core.Logic.{_⊎_, inl, inr}
 use mathlib.Core.Path.{_≡_, refl, sym, ap, _∙_}
 use native.Mathlib.Omega.{arith}
 use lib.Dec.{eqb}
+use lib.ListN.{length}
 use borrow.Author.Tests.{eq-eqb, ne-eqb}
 use Rattle.protocol.specs.declared.Server.{Server}
 use Rattle.protocol.specs.Version.{owner, count}
 use Rattle.protocol.specs.Server.{held, heldOwn, replaced}
+use Rattle.protocol.specs.MemoryFile.{fileSize, held as heldIn}
 use Rattle.protocol.specs.Meaning.{AtOrBefore}
+use Rattle.protocol.specs.MemoryMeaning.{Formed}
 use Rattle.protocol.specs.Steady.{Kept, Steady}
 use Rattle.protocol.proofs.Held as Held
 use Rattle.protocol.proofs.Held.{replaced-length}
@@ -25,7 +28,7 @@ use Rattle.protocol.proofs.HonestNext.{
   next-proper,
 }
 
-module _ {N : ℕ} {s : Server} {memory : ℕ → List ℕ} {u : ℕ} {handle : List ℕ} (r : Ready N s memory u handle) where
+module _ {N : ℕ} {s : Server} {file : ℕ → List ℕ} {u : ℕ} {handle : List ℕ} (r : Ready N s file u handle) where
   owned : owner (made-next r) < 16
   owned = omega (arith, next-owner r, r .small, r .user)
 
@@ -63,14 +66,21 @@ module _ {N : ℕ} {s : Server} {memory : ℕ → List ℕ} {u : ℕ} {handle : 
       now-or-still (λ v x. v < 16 → w < 16 → AtOrBefore x (held s w) ⊎ AtOrBefore (held s w) x)
       (λ a b. inr (held-before r w b .0)) (λ v n a b. r .steady .ordered v w a b))
 
-  pub steady-next : Steady N (replaced s (made-next r)) (λ v. cond (eqb u v) (made-next r) (memory v))
+  -- With any file g of the user that holds the new structure.
+  pub steady-next :
+      (g : List ℕ) → length g ≡ fileSize → Formed N u g → heldIn g ≡ made-next r →
+      Steady N (replaced s (made-next r)) (λ v. cond (eqb u v) g (file v))
   unfolding replaced
-  steady-next =
+  steady-next g long formed holds =
       record {
         users = r .steady .users;
         long = replaced-length s (made-next r) (r .steady .long) (next-length r) owned;
+        filed =
+            now-or-still
+            (λ v x. v < N → (length (cond (eqb u v) g (file v)) ≡ fileSize) × Formed N v (cond (eqb u v) g (file v)))
+            (λ l. rw (eq-eqb u u refl) (long, formed)) (λ v n l. rw (ne-eqb u v (λ e. n (sym e))) (r .steady .filed v l));
         remembered =
-            now-or-still (λ v x. v < N → cond (eqb u v) (made-next r) (memory v) ≡ x) (λ l. rw (eq-eqb u u refl))
+            now-or-still (λ v x. v < N → heldIn (cond (eqb u v) g (file v)) ≡ x) (λ l. rw (eq-eqb u u refl) holds)
             (λ v n l. rw (ne-eqb u v (λ e. n (sym e))) (r .steady .remembered v l));
         kept = now-or-still (λ v x. v < 16 → Kept N v x) (λ l. inr (next-proper r)) (λ v n l. r .steady .kept v l);
         counted = λ v w. counted-now w v;

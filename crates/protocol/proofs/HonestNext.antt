@@ -20,13 +20,13 @@ use Rattle.protocol.proofs.Held.{count-none}
 use Rattle.protocol.proofs.Listing.{Listing, listing-from, entry-held}
 
 -- A user's turn in such a state.
-pub record Ready (N : ℕ) (s : Server) (memory : ℕ → List ℕ) (u : ℕ) (handle : List ℕ) : Type 0 where
+pub record Ready (N : ℕ) (s : Server) (file : ℕ → List ℕ) (u : ℕ) (handle : List ℕ) : Type 0 where
   pub small : N ≤ 16
   pub user : u < N
   pub handled : length handle ≡ 32
-  pub steady : Steady N s memory
+  pub steady : Steady N s file
 
-module _ {N : ℕ} {s : Server} {memory : ℕ → List ℕ} {u : ℕ} {handle : List ℕ} (r : Ready N s memory u handle) where
+module _ {N : ℕ} {s : Server} {file : ℕ → List ℕ} {u : ℕ} {handle : List ℕ} (r : Ready N s file u handle) where
   pub user-below : u < 16
   user-below = omega (arith, r .small, r .user)
 
@@ -43,7 +43,7 @@ module _ {N : ℕ} {s : Server} {memory : ℕ → List ℕ} {u : ℕ} {handle : 
   pub all-listed : Listing N s 0 16 (allHeld s)
   all-listed = listing-from N s (r .steady .kept) 0 16 (omega arith)
 
-  entry-all : (v : ℕ) → v < 16 → entry (allHeld s) v ≡ held s v
+  pub entry-all : (v : ℕ) → v < 16 → entry (allHeld s) v ≡ held s v
   entry-all v l = entry-held N s (r .steady .kept) 0 16 (allHeld s) all-listed (omega arith) v (omega arith) l
 
   pub next-length : length made-next ≡ size

@@ -9,16 +9,17 @@ use lib.ListN.{length}
 use Rattle.refusal.specs.Answer.{Refused}
 use Rattle.protocol.specs.Version.{count}
 use Rattle.protocol.specs.Check.{lastCount}
+use Rattle.protocol.specs.MemoryFile.{held}
 use Rattle.protocol.specs.Server.{heldOwn, allHeld}
 use Rattle.protocol.specs.Turns.{Turn, World, turn, after, HonestTurns}
 use Rattle.protocol.proofs.HonestNext.{Ready}
-use Rattle.protocol.proofs.SteadyTurns.{turn-last, turn-next, fair-ready}
+use Rattle.protocol.proofs.SteadyTurns.{never-again, turn-last, turn-next, fair-ready}
 
 refused-exactly :
-    (N : ℕ) (w : World) (t : Turn) → Ready N (w .server) (w .memory) (t .user) (t .handle) →
-    length (allHeld (w .server)) ≤ length (t .buffer) → Refused (turn N w t) ↔ (count (w .memory (t .user)) (t .user) ≡ lastCount)
+    (N : ℕ) (w : World) (t : Turn) → Ready N (w .server) (w .file) (t .user) (t .handle) →
+    length (allHeld (w .server)) ≤ length (t .buffer) → Refused (turn N w t) ↔ (count (held (w .file (t .user))) (t .user) ≡ lastCount)
 refused-exactly N w t r room =
-    let own : count (w .memory (t .user)) (t .user) ≡ heldOwn (w .server) (t .user) =
+    let own : count (held (w .file (t .user))) (t .user) ≡ heldOwn (w .server) (t .user) =
     ap (λ (x : List ℕ). count x (t .user)) (r .steady .remembered (t .user) (r .user))
     in (
       λ f.
@@ -31,7 +32,9 @@ refused-exactly N w t r room =
 
 pub honest-turns : HonestTurns
 honest-turns N some small [] f = tt
-honest-turns N some small (t ∷ earlier) f = (
-  refused-exactly N (after N earlier) t (fair-ready N some small t earlier f) (f .0 .2),
-  honest-turns N some small earlier (f .1),
-)
+honest-turns N some small (t ∷ earlier) f =
+    let w : World = after N earlier in
+    let r = fair-ready N some small t earlier f in (
+      (refused-exactly N w t r (f .0 .2), never-again N w t r (f .0 .2)),
+      honest-turns N some small earlier (f .1),
+    )

@@ -15,12 +15,16 @@ use Rattle.protocol.specs.declared.Server.{Server}
 use Rattle.protocol.specs.Version.{size, count, structure}
 use Rattle.protocol.specs.Check.{lastCount}
 use Rattle.protocol.specs.Server.{empty, held, heldOwn, allHeld, replaced}
+use Rattle.protocol.specs.MemoryFile.{fileSize, held as heldIn}
+use Rattle.protocol.specs.History.{whole}
 use Rattle.protocol.specs.Meaning.{AtOrBefore}
+use Rattle.protocol.specs.MemoryMeaning.{Formed}
 use Rattle.protocol.specs.Turns.{Turn, World, start, turn, after, Fair}
 use Rattle.protocol.specs.TwoUsers.{turnOf}
 use Rattle.protocol.specs.Steady.{Proper, Kept, Steady}
-use Rattle.protocol.specs.LastTurn.{lastOwn, lastWorld, LastTurn}
+use Rattle.protocol.specs.LastTurn.{lastOwn, lastWorld, ownTurn, LastTurn}
 use Rattle.protocol.proofs.Version.{length-structure, count-structure}
+use Rattle.protocol.proofs.Moved.{of-holds, moved-formed}
 use Rattle.protocol.proofs.Held.{count-none, held-empty, empty-length, made-for, replaced-length, now-or-still}
 use Rattle.protocol.proofs.HonestNext.{Ready, next-own}
 use Rattle.protocol.proofs.HonestCommit as HonestCommit
@@ -69,14 +73,19 @@ module _ (P : ℕ → List ℕ → Type 0) (of-last : P 0 lastOwn) (of-none : (v
 none-before : (x : List ℕ) → AtOrBefore [] x
 none-before x v l = omega (arith, count-none v)
 
-last-steady : Steady 2 (lastWorld .server) (lastWorld .memory)
+last-steady : Steady 2 (lastWorld .server) (lastWorld .file)
 unfolding lastWorld replaced empty
 last-steady =
     let s : Server = lastWorld .server in
     record {
       users = refl;
       long = replaced-length (empty 2) lastOwn (empty-length 2) last-length (omega (arith, last-proper .owned));
-      remembered = λ v l. of-held (λ v x. lastWorld .memory v ≡ x) refl (λ v l n. rw (ne-eqb v 0 n)) v (omega arith);
+      filed = λ v l.
+          of-held (λ v x. (length (lastWorld .file v) ≡ fileSize) × Formed 2 v (lastWorld .file v))
+          (moved-formed 2 0 lastOwn (inr last-length) (inr (last-proper .formed, last-proper .owned)))
+          (λ v l n. rw (ne-eqb v 0 n) (moved-formed 2 v [] (inl refl) (inl refl))) v (omega arith);
+      remembered = λ v l.
+          of-held (λ v x. heldIn (lastWorld .file v) ≡ x) (of-holds lastOwn) (λ v l n. rw (ne-eqb v 0 n) (of-holds [])) v (omega arith);
       kept = of-held (Kept 2) (inr last-proper) (λ v l n. inl refl);
       counted = λ v w l m.
           of-held (λ w y. count (held s v) w ≤ count y w)
@@ -89,36 +98,36 @@ last-steady =
     }
 
 -- User 0's turn in a steady world of two: refused at the last count, and one more of it before.
-module _ (w : World) (st : Steady 2 (w .server) (w .memory)) where
-  user-0 : Ready 2 (w .server) (w .memory) (turnOf 0 .user) (turnOf 0 .handle)
-  user-0 = let f = roomy-turn 0 (omega arith) in ready 2 (omega arith) w (turnOf 0) (f .0) (f .1) st
+module _ (w : World) (st : Steady 2 (w .server) (w .file)) where
+  user-0 : Ready 2 (w .server) (w .file) (ownTurn .user) (ownTurn .handle)
+  user-0 = let f = roomy-turn 0 whole (omega arith) in ready 2 (omega arith) w ownTurn (f .0) (f .1) st
 
-  room : length (allHeld (w .server)) ≤ length (turnOf 0 .buffer)
-  room = has-room user-0 (turnOf 0 .buffer) (roomy-turn 0 (omega arith) .2)
+  room : length (allHeld (w .server)) ≤ length (ownTurn .buffer)
+  room = has-room user-0 (ownTurn .buffer) (roomy-turn 0 whole (omega arith) .2)
 
-  refused-then : heldOwn (w .server) 0 ≡ lastCount → turn 2 w (turnOf 0) ≡ refused 6 0 0
+  refused-then : heldOwn (w .server) 0 ≡ lastCount → turn 2 w ownTurn ≡ refused 6 0 0
   unfolding turnOf
-  refused-then e = turn-last 2 w (turnOf 0) user-0 room e .1
+  refused-then e = turn-last 2 w ownTurn user-0 room e .1
 
-  one-more : (heldOwn (w .server) 0 ≡ lastCount → ⊥) → heldOwn (left (turn 2 w (turnOf 0)) (w .server)) 0 ≡ heldOwn (w .server) 0 + 1
+  one-more : (heldOwn (w .server) 0 ≡ lastCount → ⊥) → heldOwn (left (turn 2 w ownTurn) (w .server)) 0 ≡ heldOwn (w .server) 0 + 1
   unfolding turnOf
   one-more n =
-      rw (turn-next 2 w (turnOf 0) user-0 room n .1)
+      rw (turn-next 2 w ownTurn user-0 room n .1)
       (HonestCommit.now-or-still user-0 (λ v x. v ≡ 0 → count x v ≡ heldOwn (w .server) 0 + 1) (λ e. next-own user-0) (λ v m e. absurd (m e)) 0
       refl)
 
 -- n turns of user 0, of whom n operations are counted then.
 abbrev turns : ℕ → List Turn
-turns n = replicate n (turnOf 0)
+turns n = replicate n ownTurn
 
 all-roomy : (n : ℕ) → Roomy 2 (turns n)
 all-roomy zero = tt
-all-roomy (suc n) = (roomy-turn 0 (omega arith), all-roomy n)
+all-roomy (suc n) = (roomy-turn 0 whole (omega arith), all-roomy n)
 
 all-fair : (n : ℕ) → Fair 2 (turns n)
 all-fair n = roomy-fair 2 (omega arith) (omega arith) (turns n) (all-roomy n)
 
-all-steady : (n : ℕ) → Steady 2 (after 2 (turns n) .server) (after 2 (turns n) .memory)
+all-steady : (n : ℕ) → Steady 2 (after 2 (turns n) .server) (after 2 (turns n) .file)
 all-steady n = steady-turns 2 (omega arith) (omega arith) (turns n) (all-fair n)
 
 all-counted : (n : ℕ) → n ≤ lastCount → heldOwn (after 2 (turns n) .server) 0 ≡ n

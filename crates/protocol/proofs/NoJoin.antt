@@ -1,6 +1,6 @@
--- A fork is never joined, in every run: a making step signs what it writes, from the counts of an earlier check that accepts a list, so
--- that checks and making steps are clients in the sense of `Clients`. The memory at the check is not compared with that at the making step:
--- the own counts suffice.
+-- A fork is never joined, in every run: a making step whose pending write comes whole signs what it writes, from the counts of an earlier check
+-- that accepts a list, so that checks and making steps are clients in the sense of `Clients`. The file at the check is not compared with that
+-- at the making step: the own counts suffice.
 use Prim.Native.Nat.{ℕ, _+_, _≤_, _<_}
 use mathlib.Core.List.{List}
 use mathlib.Core.Logic.{_⊎_, inl, ⊎-swap}
@@ -14,26 +14,28 @@ use Rattle.protocol.specs.Version.{owner, count, own}
 use Rattle.protocol.specs.List.{records, recordAt, entry}
 use Rattle.protocol.specs.Meaning.{AtOrBefore}
 use Rattle.protocol.specs.CreateMeaning.{MadeOf}
-use Rattle.protocol.specs.History.{Call, Making, Event, checks, creates, memory, answer, outcome, written, Signed}
+use Rattle.protocol.specs.MemoryFile.{held, none, next}
+use Rattle.protocol.specs.History.{Call, Making, created, whole, Event, checks, creates, written, file, answer, outcome, Signed}
 use Rattle.protocol.specs.NoJoin.{Premise, Shows, NoJoin}
 use Rattle.protocol.proofs.List.{entry-counting}
 use Rattle.protocol.proofs.Accepts.{Accepts, accepts}
 use Rattle.protocol.proofs.CreateMeans.{create-means}
 use Rattle.protocol.proofs.MadeMeans.{made-means}
 use Rattle.protocol.proofs.Clients.{Clients, no-list-joins}
-use Rattle.protocol.proofs.History.{writes-made, signed-event, gave-call, signed-once}
+use Rattle.protocol.proofs.FileCalls.{gives-held, makes-held}
+use Rattle.protocol.proofs.History.{writes-made, counted-event, gave-call, signed-once}
 
--- The event with t events before it is a making step of the honest user a that accepts, and writes x.
+-- The event with t events before it is a making step of the honest user a that accepts, and its write of x comes whole.
 record Signs (N : ℕ) (honest : ℕ → Type 0) (run : List Event) (t a : ℕ) (x : List ℕ) : Type 0 where
   earlier : List Event
   step : Making
-  came : Came run earlier (creates step)
+  came : Came run earlier (creates step whole)
   when : length earlier ≡ t
   by : step .user ≡ a
   trusted : honest a
   answers : outcome N earlier step ≡ accepted x
 
--- The event with t events before it is a check that accepts a list whose record at `place` is r, of owner a.
+-- The event with t events before it is a check that gives counts for a list whose record at `place` is r, of owner a.
 record Lists (N : ℕ) (run : List Event) (t a : ℕ) (r : List ℕ) : Type 0 where
   earlier : List Event
   call : Call
@@ -41,7 +43,7 @@ record Lists (N : ℕ) (run : List Event) (t a : ℕ) (r : List ℕ) : Type 0 wh
   place : ℕ
   came : Came run earlier (checks call)
   when : length earlier ≡ t
-  answers : answer N earlier call ≡ accepted counts
+  answers : answer N earlier call ≡ accepted (next counts)
   within : place < records (call .list)
   owned : owner (recordAt (call .list) place) ≡ a
   is : recordAt (call .list) place ≡ r
@@ -61,27 +63,37 @@ pairs A i j h l =
     ]
 
 accepted-call :
-    (N : ℕ) (earlier : List Event) (c : Call) {counts : List ℕ} → answer N earlier c ≡ accepted counts →
-    Accepts N (c .user) (memory N earlier (c .user)) (c .list) counts
-accepted-call N earlier c {counts} e = accepts N (c .user) (memory N earlier (c .user)) (c .list) (c .marks) counts e
+    (N : ℕ) (earlier : List Event) (c : Call) {counts : List ℕ} → answer N earlier c ≡ accepted (next counts) →
+    Accepts N (c .user) (held (file N earlier (c .user))) (c .list) counts
+accepted-call N earlier c {counts} e =
+    let f : List ℕ = file N earlier (c .user) in
+    accepts N (c .user) (held f) (c .list) (c .marks) counts (gives-held N (c .user) f (c .list) (c .marks) counts e)
 
 module _ {N : ℕ} {honest : ℕ → Type 0} {run : List Event} where
+  -- What the file holds at the step, and what is made on it.
+  abbrev mem-at : {t a : ℕ} {x : List ℕ} → Signs N honest run t a x → List ℕ
+  mem-at s = held (file N (s .earlier) (s .step .user))
+
+  made-on : {t a : ℕ} {x : List ℕ} (s : Signs N honest run t a x) → created N (mem-at s) (s .step) ≡ accepted x
+  made-on {x = x} s =
+      let m : Making = s .step in makes-held N (m .user) (file N (s .earlier) (m .user)) (m .counts) (m .handle) (m .room) x (s .answers)
+
   signs-made : {t a : ℕ} {x : List ℕ} (s : Signs N honest run t a x) → MadeOf (s .step) x
-  signs-made {x = x} s = made-means N (memory N (s .earlier) (s .step .user)) (s .step) x (s .answers)
+  signs-made {x = x} s = made-means N (mem-at s) (s .step) x (made-on s)
 
   signs-user : {t a : ℕ} {x : List ℕ} → Signs N honest run t a x → a < 16
   signs-user {x = x} s =
-      let u = create-means N (memory N (s .earlier) (s .step .user)) (s .step) .0 x .0 (s .answers) .0 .0 .0 .0 .0 .0 in
+      let u = create-means N (mem-at s) (s .step) .0 x .0 (made-on s) .0 .0 .0 .0 .0 .0 in
       omega (arith, u .1, u .2, s .by)
 
   signs-once : {t t′ a : ℕ} {x x′ : List ℕ} → Signs N honest run t a x → Signs N honest run t′ a x′ → count x a ≡ count x′ a → x ≡ x′
   signs-once s s′ e =
-      signed-once N (s .came) (s′ .came) (s .by ∙ sym (s′ .by)) (ap written (s .answers)) (ap written (s′ .answers)) (rw (s′ .by) e)
+      signed-once N none (s .came) (s′ .came) (s .by ∙ sym (s′ .by)) (ap written (s .answers)) (ap written (s′ .answers)) (rw (s′ .by) e)
 
 module _ {N : ℕ} {run : List Event} where
   -- The list that a check accepts shows each user that the list's entry counts.
   lists-entry :
-      {earlier : List Event} {c : Call} {counts : List ℕ} → Came run earlier (checks c) → answer N earlier c ≡ accepted counts →
+      {earlier : List Event} {c : Call} {counts : List ℕ} → Came run earlier (checks c) → answer N earlier c ≡ accepted (next counts) →
       (v : ℕ) → 0 < count (entry (c .list) v) v → (r : List ℕ) × Lists N run (length earlier) v r × (r ≡ entry (c .list) v)
   lists-entry {earlier} {c} {counts} came e v h =
       let f = entry-counting (c .list) (accepted-call N earlier c e .whole) v h in (
@@ -114,8 +126,8 @@ signed-signs :
     (N : ℕ) (honest : ℕ → Type 0) (run : List Event) {a : ℕ} {x : List ℕ} → honest a → Signed N run a x →
     (t : ℕ) × (t < length run) × Signs N honest run t a x
 signed-signs N honest run h m =
-    let s = signed-event N run m in
-    let w = writes-made N (s .0) (s .1) (s .4) in (
+    let s = counted-event N none run m in
+    let w = writes-made N none (s .0) (s .1) (s .4) in (
       length (s .0),
       came-shorter (s .2),
       record { earlier = s .0; step = w .0; came = rw (w .1) at (s .2); when = refl; by = rw (w .1) at (s .3); trusted = h; answers = w .2 },
@@ -173,7 +185,7 @@ module _ (N : ℕ) (honest : ℕ → Type 0) (run : List Event) (premise : Premi
 -- An entry that is x or later, as a record of an accepted list.
 shows-lists :
     {N : ℕ} {honest : ℕ → Type 0} {run earlier : List Event} {c : Call} {s : List ℕ} {t a : ℕ} {x : List ℕ} → Came run earlier (checks c) →
-    answer N earlier c ≡ accepted s → Signs N honest run t a x → Shows (c .list) a (own x) →
+    answer N earlier c ≡ accepted (next s) → Signs N honest run t a x → Shows (c .list) a (own x) →
     (r : List ℕ) × Lists N run (length earlier) a r × (count x a ≤ count r a)
 shows-lists {earlier = earlier} {c = c} {s = s} {a = a} {x = x} m e g h =
     let r : List ℕ = recordAt (c .list) (h .0) in

@@ -10,7 +10,9 @@ use Rattle.refusal.specs.Run.{Each}
 use Rattle.protocol.specs.declared.Server.{Server}
 use Rattle.protocol.specs.Version.{count}
 use Rattle.protocol.specs.Check.{lastCount}
+use Rattle.protocol.specs.MemoryFile.{held}
 use Rattle.protocol.specs.Server.{heldOwn, allHeld}
+use Rattle.protocol.specs.History.{Fate, whole, absent}
 use Rattle.protocol.specs.Turns.{Turn, start, turn, after, Fair}
 use Rattle.protocol.specs.TwoUsers.{turnOf, twoUsers, TwoUsers}
 use Rattle.protocol.proofs.Held.{count-none, held-empty, made-for}
@@ -28,7 +30,7 @@ Accepted N = Each (λ earlier t. Refused (turn N (after N earlier) t) → ⊥)
 
 -- Sixteen records have room in such a buffer.
 pub has-room :
-    {N u : ℕ} {s : Server} {memory : ℕ → List ℕ} {handle : List ℕ} → Ready N s memory u handle →
+    {N u : ℕ} {s : Server} {file : ℕ → List ℕ} {handle : List ℕ} → Ready N s file u handle →
     (buffer : List ℕ) → length buffer ≡ 1568 → length (allHeld s) ≤ length buffer
 has-room r buffer e = let l = all-listed r in omega (arith, l .whole, l .few, r .small)
 
@@ -54,23 +56,24 @@ module _ (N : ℕ) (some : 1 ≤ N) (small : N ≤ 16) where
   all-accepted [] f h = tt
   all-accepted (t ∷ earlier) f h = (
     λ r.
-        let last : count (after N earlier .memory (t .user)) (t .user) ≡ lastCount =
-        honest-turns N some small (t ∷ earlier) f .0 .0 r
+        let last : count (held (after N earlier .file (t .user))) (t .user) ≡ lastCount =
+        honest-turns N some small (t ∷ earlier) f .0 .0 .0 r
         in
         let e = ap (λ (x : List ℕ). count x (t .user)) (fair-ready N some small t earlier f .steady .remembered (t .user) (f .0 .0)) in
         omega (arith, own-at-most earlier (f .1) (t .user) (omega (arith, f .0 .0))),
     all-accepted earlier (f .1) (omega arith),
   )
 
-pub roomy-turn : (u : ℕ) → u < 2 → (turnOf u .user < 2) × (length (turnOf u .handle) ≡ 32) × (length (turnOf u .buffer) ≡ 1568)
+pub roomy-turn :
+    (u : ℕ) (k : Fate) → u < 2 → (turnOf u k .user < 2) × (length (turnOf u k .handle) ≡ 32) × (length (turnOf u k .buffer) ≡ 1568)
 unfolding turnOf
-roomy-turn u l = (l, length-replicate {A = ℕ} 32 0, length-replicate {A = ℕ} 1568 0)
+roomy-turn u k l = (l, length-replicate {A = ℕ} 32 0, length-replicate {A = ℕ} 1568 0)
 
 two-users-fair : Fair 2 twoUsers
 two-users-fair =
     roomy-fair 2 (omega arith) (omega arith) twoUsers (
-      roomy-turn 1 (omega arith),
-      (roomy-turn 0 (omega arith), (roomy-turn 1 (omega arith), (roomy-turn 0 (omega arith), tt))),
+      roomy-turn 1 whole (omega arith),
+      (roomy-turn 0 absent (omega arith), (roomy-turn 1 whole (omega arith), (roomy-turn 0 absent (omega arith), tt))),
     )
 
 pub two-users : TwoUsers

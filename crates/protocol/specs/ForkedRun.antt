@@ -8,7 +8,8 @@ use Rattle.layout.specs.Bytes.{bytes4}
 use Rattle.refusal.specs.Answer.{accepted, refused}
 use Rattle.protocol.specs.Version.{size, count}
 use Rattle.protocol.specs.List.{records}
-use Rattle.protocol.specs.History.{Call, Making, Event, checks, creates, answer, outcome, Signed}
+use Rattle.protocol.specs.MemoryFile.{next}
+use Rattle.protocol.specs.History.{Call, Making, whole, Event, checks, creates, answer, outcome, Signed}
 use Rattle.protocol.specs.NoJoin.{Premise, MarkedPremise}
 
 -- "N is 2; user 0 is A, 1 is B; counts in brackets; marks 1 unless said." The bytes of [a,b] of this owner, with a zero handle, and the
@@ -64,13 +65,13 @@ again = makingOf 0 2 1 (replicate 32 1)
 
 -- P1 and P2; then both checks, A's first; then both making steps, B's first.
 abbrev pub twoSigned : List Event
-twoSigned = creates m2 ∷ checks p2 ∷ creates m1 ∷ checks p1 ∷ []
+twoSigned = creates m2 whole ∷ checks p2 ∷ creates m1 whole ∷ checks p1 ∷ []
 
 abbrev pub bothChecked : List Event
 bothChecked = checks p4 ∷ checks p3 ∷ twoSigned
 
 abbrev pub forkedRun : List Event
-forkedRun = creates m3 ∷ creates m4 ∷ bothChecked
+forkedRun = creates m3 whole ∷ creates m4 whole ∷ bothChecked
 
 -- Everybody is honest, and both forms of the premise are met. A's last structure and B's are a fork; both were made from one list of two
 -- entries, which both had accepted before. A second structure from A's counts is refused, and a check of both sides is, at either client.
@@ -82,9 +83,9 @@ pub record ForkedRun : Type 0 where
   pub fewer-of-b : count (counting 0 2 1) 1 < count (counting 1 1 2) 1
   pub fewer-of-a : count (counting 1 1 2) 0 < count (counting 0 2 1) 0
   pub two-entries : records (p3 .list) ≡ 2
-  pub third-accepts : answer 2 twoSigned p3 ≡ accepted (twoCounts 2 1)
-  pub fourth-accepts : answer 2 (checks p3 ∷ twoSigned) p4 ≡ accepted (twoCounts 1 2)
+  pub third-accepts : answer 2 twoSigned p3 ≡ accepted (next (twoCounts 2 1))
+  pub fourth-accepts : answer 2 (checks p3 ∷ twoSigned) p4 ≡ accepted (next (twoCounts 1 2))
   pub b-makes : outcome 2 bothChecked m4 ≡ accepted (counting 1 1 2)
-  pub a-makes : outcome 2 (creates m4 ∷ bothChecked) m3 ≡ accepted (counting 0 2 1)
+  pub a-makes : outcome 2 (creates m4 whole ∷ bothChecked) m3 ≡ accepted (counting 0 2 1)
   pub again-refused : outcome 2 forkedRun again ≡ refused 16 0 0
   pub fifth-refused : (user : ℕ) → user < 2 → answer 2 forkedRun (p5 user) ≡ refused 7 0 1

@@ -6,26 +6,27 @@ use Rattle.refusal.specs.Answer.{accepted}
 use Rattle.refusal.specs.Run.{Each}
 use Rattle.protocol.specs.Version.{owner, count, own}
 use Rattle.protocol.specs.List.{records, recordAt}
-use Rattle.protocol.specs.History.{Call, Making, Event, checks, creates, answer, outcome, Signed, Gave}
+use Rattle.protocol.specs.MemoryFile.{next}
+use Rattle.protocol.specs.History.{Call, Making, whole, Event, checks, creates, answer, outcome, Signed, Gave}
 use Rattle.protocol.specs.Meaning.{Marked}
 
 -- The premise of who signed: "in a list that a call accepts, a record whose owner is honest is byte for byte one that this owner signed
--- earlier in the run." The calls that accept lists are the checks.
+-- earlier in the run." The calls that accept lists are the checks that give counts.
 abbrev pub SignedRecords : ℕ → (ℕ → Type 0) → List Event → Type 0
 SignedRecords N honest =
     Each
     (λ earlier e.
-    (c : Call) → e ≡ checks c → (s : List ℕ) → answer N earlier c ≡ accepted s →
+    (c : Call) → e ≡ checks c → (s : List ℕ) → answer N earlier c ≡ accepted (next s) →
     (i : ℕ) → i < records (c .list) → honest (owner (recordAt (c .list) i)) →
     Signed N earlier (owner (recordAt (c .list) i)) (recordAt (c .list) i))
 
 -- "The making step gets counts that an earlier check gave at the same desk": any earlier one that accepted, whatever came between. It is
--- asked of the accepted making steps of honest users alone.
+-- asked of the accepted making steps of honest users alone, and of those only whose pending write came whole.
 abbrev pub CheckedCounts : ℕ → (ℕ → Type 0) → List Event → Type 0
 CheckedCounts N honest =
     Each
     (λ earlier e.
-    (m : Making) → e ≡ creates m → (x : List ℕ) → outcome N earlier m ≡ accepted x → honest (m .user) →
+    (m : Making) → e ≡ creates m whole → (x : List ℕ) → outcome N earlier m ≡ accepted x → honest (m .user) →
     Gave N earlier (m .user) (m .counts))
 
 abbrev pub Premise : ℕ → (ℕ → Type 0) → List Event → Type 0
@@ -43,7 +44,7 @@ NeverJoined N honest run =
     count x b < count y b → count y a < count x a →
     Each
     (λ earlier e.
-    (c : Call) → e ≡ checks c → (s : List ℕ) → answer N earlier c ≡ accepted s →
+    (c : Call) → e ≡ checks c → (s : List ℕ) → answer N earlier c ≡ accepted (next s) →
     Shows (c .list) a (own x) → Shows (c .list) b (own y) → ⊥)
     run
 

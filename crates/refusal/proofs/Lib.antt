@@ -5,3 +5,4 @@ pub mod Match
 pub mod Stage
 pub mod Words
 pub mod Run
+pub mod Done

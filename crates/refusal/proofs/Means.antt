@@ -83,6 +83,33 @@ and-then ts us M N =
           (λ w. inr (w .0, w .1, w .2, inl (w .3))) (M .cases);
     }
 
+-- The one refusal i j k is given where P does not hold.
+abbrev pub Unless : Type 0 → ℕ → ℕ → ℕ → ℕ → ℕ → ℕ → Type 0
+Unless P i j k n p q = (P → ⊥) × (n ≡ i) × (p ≡ j) × (q ≡ k)
+
+-- Two stages that share it.
+pub merged :
+    {i j k : ℕ} (ts us : List Step) {P P′ : Type 0} → Stage ts P (Unless P i j k) → Stage us P′ (Unless P′ i j k) →
+    Stage (ts ++ us) (P × P′) (Unless (P × P′) i j k)
+merged {i} {j} {k} ts us {P} {P′} M N =
+    let both = and-then ts us M (λ w. N) in
+    record {
+      accepts = both .accepts;
+      refuses = λ {n} {p} {q} w.
+          rw (w .1, w .2, w .3)
+          (⊎-elim (λ a. absurd (w .0 a))
+          (λ r.
+          ⊎-elim (λ h. let e : tried (ts ++ us) ≡ refused (r .0) (r .1) (r .2) = both .refuses (r .3) in rw (h .1, h .2, h .3) at e)
+          (λ h. let e : tried (ts ++ us) ≡ refused (r .0) (r .1) (r .2) = both .refuses (r .3) in rw (h .1 .1, h .1 .2, h .1 .3) at e) (r .3))
+          (both .cases));
+      cases =
+          ⊎-elim inl
+          (λ r.
+          inr
+          (i, j, k, (⊎-elim (λ h b. h .0 (b .0)) (λ h b. h .1 .0 (b .1)) (r .3), refl, refl, refl)))
+          (both .cases);
+    }
+
 -- Tests that share a refusal.
 abbrev pub alike : List Bool → ℕ → ℕ → ℕ → List Step
 alike [] n p q = []
@@ -91,10 +118,6 @@ alike (b ∷ bs) n p q = unless b n p q ∷ alike bs n p q
 abbrev pub AllTrue : List Bool → Type 0
 AllTrue [] = Unit
 AllTrue (b ∷ bs) = (b ≡ true) × AllTrue bs
-
--- The one refusal i j k is given where P does not hold.
-abbrev pub Unless : Type 0 → ℕ → ℕ → ℕ → ℕ → ℕ → ℕ → Type 0
-Unless P i j k n p q = (P → ⊥) × (n ≡ i) × (p ≡ j) × (q ≡ k)
 
 alike-passes : (bs : List Bool) (i j k : ℕ) → AllTrue bs → tried (alike bs i j k) ≡ accepted tt
 unfolding inOrder

@@ -22,6 +22,7 @@ use Rattle.refusal.specs.declared.Refusal.the-variants.{
   LastReference,
   NotHeld,
   NotNext,
+  Pending,
 }
 
 -- Each refusal has one number and two positions, whatever the call's result would be.
@@ -42,6 +43,7 @@ numbered NoPlace = (13, 0, 0, λ A. refl)
 numbered LastReference = (14, 0, 0, λ A. refl)
 numbered NotHeld = (15, 0, 0, λ A. refl)
 numbered NotNext = (16, 0, 0, λ A. refl)
+numbered Pending = (17, 0, 0, λ A. refl)
 
 -- A refusal ends what would follow it, and a refused call keeps what was there before.
 pub ends : {A B : Type 0} (r : Refusal) (f : B → Answer A) → andThen (refusal r) f ≡ refusal r

@@ -35,3 +35,10 @@ module _ {A : Type 0} where
   in-stage [] a = refl
   in-stage (pass ∷ ts) a = in-stage ts a
   in-stage (stop n i j ∷ ts) a = refl
+
+-- What follows the answer follows it in its order.
+pub then-in : {A B : Type 0} (ts : List Step) (a : Answer A) (g : A → Answer B) → andThen (inOrder ts a) g ≡ inOrder ts (andThen a g)
+unfolding inOrder
+then-in [] a g = refl
+then-in (pass ∷ ts) a g = then-in ts a g
+then-in (stop n i j ∷ ts) a g = refl

@@ -19,6 +19,7 @@ use Rattle.refusal.specs.declared.Refusal.the-variants.{
   LastReference,
   NotHeld,
   NotNext,
+  Pending,
 }
 use Rattle.refusal.specs.declared.Given.{Given}
 use Rattle.refusal.specs.declared.Given.the-variants.{Number, Refused as NotGiven}
@@ -42,6 +43,7 @@ refusal NoPlace = refused 13 0 0
 refusal LastReference = refused 14 0 0
 refusal NotHeld = refused 15 0 0
 refusal NotNext = refused 16 0 0
+refusal Pending = refused 17 0 0
 
 -- The answer of a call whose result is `a`.
 abbrev pub checked : {A : Type 0} → A → Check → Answer A

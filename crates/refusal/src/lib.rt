@@ -2,19 +2,19 @@
 // fixes, holding the positions that the paper names for it. What number and which positions
 // a variant stands for is said once, in specs/Refusal.antt, and every contract cites that.
 //
-// Numbers 17 to 19 are kept for what is planned above this base.
+// Numbers 18 and 19 are kept for what is planned above this base.
 ghost use mathlib.Core.Path.{_≡_};
 ghost use Rattle.refusal.specs.Answer.{refused};
 ghost use Rattle.refusal.specs.Refusal.{refusal, said, given};
 ghost use Rattle.refusal.specs.Word.{word as wordOf, answerWord, plainWord};
 
-// The refusals, in the order of their numbers, 1 to 16.
+// The refusals, in the order of their numbers, 1 to 17.
 pub enum Refusal {
     // 1: the number of users is not 1 to 16, or the user is not below it; of a block store, above 15.
     Users,
     // 2: a length is not the stated one.
     Length(usize),
-    // 3: a record, the order of owners, a count, a block, an inode or a place of a store is not well formed.
+    // 3: a record, the order of owners, a count, a memory file, a block, an inode or a place of a store is not well formed.
     Malformed(usize),
     // 4: a signature mark is not 1.
     Unsigned(usize),
@@ -42,6 +42,8 @@ pub enum Refusal {
     NotHeld,
     // 16: the own count is not one more than the remembered one.
     NotNext,
+    // 17: a memory file is moved back while it is pending.
+    Pending,
 }
 
 // The answer of a call whose result is in a lent buffer, and of each stage of a longer one.
@@ -95,6 +97,7 @@ pub fn tell(r: Refusal) -> Told
         Refusal::LastReference => row(14, 0, 0),
         Refusal::NotHeld => row(15, 0, 0),
         Refusal::NotNext => row(16, 0, 0),
+        Refusal::Pending => row(17, 0, 0),
     }
 }
 

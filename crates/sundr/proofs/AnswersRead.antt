@@ -9,7 +9,7 @@ use Rattle.sha256.specs.Sha256.{sha256}
 use Rattle.sha256.specs.Hash.{hash}
 use Rattle.sundr.specs.Read.{IsReadPlain, AnswersRead}
 use Rattle.sundr.proofs.Fits.{small-fits, plain-read}
-use Rattle.sundr.proofs.ReadProtocol.{check-read, create-read, compare-read, make-read, list-read, commit-read}
+use Rattle.sundr.proofs.ReadProtocol.{check-read, create-read, pend-read, sent-read, over-read, back-read, compare-read, make-read, list-read, commit-read}
 use Rattle.sundr.proofs.ReadTable.{write-read, lookup-read, many-read, block-read, large-read}
 use Rattle.sundr.proofs.ReadChoose.{choose-read}
 use Rattle.sundr.proofs.ReadStore.{make-store-read, store-read, retrieve-read, unreference-read}
@@ -26,6 +26,10 @@ answers-read =
       sha256 = sha256-read;
       check = check-read;
       create = create-read;
+      pend = pend-read;
+      sent = sent-read;
+      over = over-read;
+      back = back-read;
       compare = compare-read;
       make = make-read;
       list = list-read;

@@ -32,15 +32,15 @@ pub test-fits : (b : Bool) (n p q : ℕ) → (b ≡ false → Fits n p q) → Fi
 test-fits true n p q f = tt
 test-fits false n p q f = f refl
 
--- One of the papers' refusals, 1 to 16, with one position at most, up to 16.
-pub small : (n p : ℕ) → (ltb 0 n && (leb n 16 && leb p 16)) ≡ true → Fits n p 0
+-- One of the papers' refusals, 1 to 17, with one position at most, up to 16.
+pub small : (n p : ℕ) → (ltb 0 n && (leb n 17 && leb p 16)) ≡ true → Fits n p 0
 small n p e =
-    let s = both-true (ltb 0 n) (leb n 16 && leb p 16) e in
-    let t = both-true (leb n 16) (leb p 16) (s .1) in
-    let h : (n ≤ 16) × (p ≤ 16) = (leb-true n 16 (t .0), leb-true p 16 (t .1)) in
+    let s = both-true (ltb 0 n) (leb n 17 && leb p 16) e in
+    let t = both-true (leb n 17) (leb p 16) (s .1) in
+    let h : (n ≤ 17) × (p ≤ 16) = (leb-true n 17 (t .0), leb-true p 16 (t .1)) in
     (ltb-true 0 n (s .0), omega (arith, h .0), omega (arith, h .1), omega arith)
 
-pub small-fits : (b : Bool) (n p : ℕ) → (ltb 0 n && (leb n 16 && leb p 16)) ≡ true → FitsStep (unless b n p 0)
+pub small-fits : (b : Bool) (n p : ℕ) → (ltb 0 n && (leb n 17 && leb p 16)) ≡ true → FitsStep (unless b n p 0)
 small-fits b n p e = test-fits b n p 0 (λ f. small n p e)
 
 -- A test over k places refuses at one of them.

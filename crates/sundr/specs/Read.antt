@@ -8,7 +8,7 @@ use lib.ListN.{length}
 use Rattle.refusal.specs.Answer.{Answer, accepted, refused, andThen}
 use Rattle.refusal.specs.Word.{answerWord}
 use Rattle.sha256.specs.Hash.{hash}
-use Rattle.protocol.specs.Create.{create}
+use Rattle.protocol.specs.MemoryFile.{Verdict, next, again, over, back, sent, pend, createFile}
 use Rattle.protocol.specs.Server.{commit}
 use Rattle.protocol.specs.declared.Server.{Server}
 use Rattle.itable.specs.Write.{blocksGiven}
@@ -17,7 +17,7 @@ use Rattle.itable.specs.Inode.{Span, blockCheck}
 use Rattle.itable.specs.LargeInode.{largeCheck}
 use Rattle.cache.specs.Choose.{choose}
 use Rattle.store.specs.Calls.{make as makeStore, store as storeBlock, retrieve, Unreferenced, unreference}
-use Rattle.sundr.specs.Check.{checkInto}
+use Rattle.sundr.specs.Check.{checkInto, sendAgain, verdictWord}
 use Rattle.sundr.specs.Compare.{compared, standingNumber}
 use Rattle.sundr.specs.Choose.{partNumber, partLength}
 use Rattle.sundr.specs.Server.{makeAt, listedAt}
@@ -55,12 +55,36 @@ IsRead first second x =
 abbrev pub IsReadPlain : {A : Type 0} → Answer A → Type 0
 IsReadPlain = IsRead (λ a. 0) (λ a. 0)
 
+-- The three answers of a check, as a caller reads them: `sundr_refusal` is 0, or 255, or a refusal's number.
+pub data Said : Type 0 where
+  accepts : Said
+  sends-again : Said
+  refuses : ℕ → ℕ → ℕ → Said
+
+unfoldable pub verdictIn : ℕ → Said
+verdictIn w =
+    cond (eqb (refusalIn w) 0) accepts
+    (cond (eqb (refusalIn w) sendAgain) sends-again
+    (refuses (refusalIn w) (firstIn w) (secondIn w)))
+
+abbrev pub said : Answer Verdict → Said
+said (accepted (next counts)) = accepts
+said (accepted (again x)) = sends-again
+said (refused n p q) = refuses n p q
+
 -- So it is with every call of include/sundr.h, whatever is given: no number, position or result is too large for its bits. The numbers are
 -- those of the contracts in src/.
 pub record AnswersRead : Type 0 where
   pub sha256 : (message : List ℕ) (room : ℕ) → IsReadPlain (hash message room)
-  pub check : (users user : ℕ) (memory list marks : List ℕ) (room : ℕ) → IsReadPlain (checkInto users user memory list marks room)
-  pub create : (users user : ℕ) (memory counts handle : List ℕ) (room : ℕ) → IsReadPlain (create users user memory counts handle room)
+  pub check :
+      (users user : ℕ) (file list marks : List ℕ) (countsRoom againRoom : ℕ) →
+      verdictIn (verdictWord (checkInto users user file list marks countsRoom againRoom)) ≡
+      said (checkInto users user file list marks countsRoom againRoom)
+  pub create : (users user : ℕ) (file counts handle : List ℕ) (room : ℕ) → IsReadPlain (createFile users user file counts handle room)
+  pub pend : (users user : ℕ) (x : List ℕ) (room : ℕ) → IsReadPlain (pend users user x room)
+  pub sent : (users user : ℕ) (file : List ℕ) → IsReadPlain (sent users user file)
+  pub over : (users user : ℕ) (old : List ℕ) (room : ℕ) → IsReadPlain (over users user old room)
+  pub back : (users user : ℕ) (file : List ℕ) (room : ℕ) → IsRead length (λ x. 0) (back users user file room)
   pub compare : (x y : List ℕ) → IsRead standingNumber (λ s. 0) (compared x y)
   pub make : (users : ℕ) (server : List ℕ) → IsReadPlain (makeAt users server)
   pub list : (server : List ℕ) (room : ℕ) → IsRead (λ n. n) (λ n. 0) (listedAt server room)

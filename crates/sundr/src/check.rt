@@ -4,15 +4,16 @@ ghost use Prim.Native.Nat.{ℕ};
 ghost use lib.ListN.{length};
 ghost use Rattle.refusal.specs.Order.{tried};
 ghost use Rattle.refusal.specs.Refusal.{refusal};
-ghost use Rattle.refusal.specs.Result.{left};
-ghost use Rattle.refusal.specs.Word.{plainWord};
-ghost use Rattle.sundr.specs.Check.{roomSteps, checkInto};
-use refusal::Check;
+ghost use Rattle.protocol.specs.Version.{size};
+ghost use Rattle.sundr.specs.Check.{roomSteps, checkInto, verdictWord, countsLeft, againLeft};
+use client::Verdict;
 use refusal::Refusal;
+use version::SIZE;
 
-// Why there is no check where the array is of another length than sixteen: the users are asked first.
+// Why there is no check where the array is of another length than sixteen, or the buffer of another than
+// 98: the users are asked first.
 fn no_room(users: u8, user: u8) -> Refusal
-    ensures { λ r. ⌜ ((len : ℕ) → (len ≡ 16 → ⊥) → tried (roomSteps users user len) ≡ refusal r) ⌝ }
+    ensures { λ r. ⌜ ((counts again : ℕ) → ((counts ≡ 16) × (again ≡ size) → ⊥) → tried (roomSteps users user counts again) ≡ refusal r) ⌝ }
 {
     if !version::is_user(users, user) {
         return Refusal::Users;
@@ -32,31 +33,43 @@ fn put(counts: [u32; 16], out: &mut [u32])
     }
 }
 
-// A client's check of a version structure list: the counts of its next structure, into sixteen lent
-// numbers.
+// A client's check of a version structure list, on its memory file: the counts of its next structure,
+// into sixteen lent numbers; or 255, and into 98 lent bytes the structure that is to be sent again.
 #[no_mangle]
-pub extern "C" fn sundr_check_list(
+pub extern "C" fn sundr_memory_check(
     users: u8,
     user: u8,
-    memory: &[u8],
+    file: &[u8],
     list: &[u8],
     marks: &[u8],
     counts: &mut [u32],
+    again: &mut [u8],
 ) -> u64
-    ensures answer { λ r. ⌜ r ≡ plainWord (checkInto users user (now (memory .entry)) (now (list .entry)) (now (marks .entry))
-        (length (now (counts .entry)))) ⌝ }
-    ensures counts { λ r. ⌜ now (counts .exit) ≡ left (checkInto users user (now (memory .entry)) (now (list .entry)) (now (marks .entry))
-        (length (now (counts .entry)))) (now (counts .entry)) ⌝ }
+    ensures answer { λ r. ⌜ r ≡ verdictWord (checkInto users user (now (file .entry)) (now (list .entry)) (now (marks .entry))
+        (length (now (counts .entry))) (length (now (again .entry)))) ⌝ }
+    ensures counts { λ r. ⌜ now (counts .exit) ≡ countsLeft (checkInto users user (now (file .entry)) (now (list .entry)) (now (marks .entry))
+        (length (now (counts .entry))) (length (now (again .entry)))) (now (counts .entry)) ⌝ }
+    ensures again { λ r. ⌜ now (again .exit) ≡ againLeft (checkInto users user (now (file .entry)) (now (list .entry)) (now (marks .entry))
+        (length (now (counts .entry))) (length (now (again .entry)))) (now (again .entry)) ⌝ }
 {
     if counts.len() != 16 {
         return refusal::refusal_word(no_room(users, user));
     }
-    let judged = client::check(users, user, memory, list, marks);
-    let answer = judged.answer;
-    let Check::Passed = answer else {
-        return refusal::check_word(answer);
-    };
-    let new = judged.counts;
-    put(new, counts);
-    refusal::check_word(answer)
+    if again.len() != SIZE {
+        return refusal::refusal_word(no_room(users, user));
+    }
+    let judged = client::check(users, user, file, list, marks);
+    let verdict = judged.verdict;
+    match verdict {
+        Verdict::Next => {
+            let new = judged.counts;
+            put(new, counts);
+            0
+        }
+        Verdict::Again => {
+            bytes::copy(&judged.again, again);
+            255
+        }
+        Verdict::Refused(r) => refusal::refusal_word(r),
+    }
 }

@@ -3,22 +3,22 @@ ghost use mathlib.Core.Path.{_≡_};
 ghost use lib.ListN.{length};
 ghost use Rattle.refusal.specs.Result.{left};
 ghost use Rattle.refusal.specs.Word.{plainWord};
-ghost use Rattle.protocol.specs.Create.{create as createOf};
+ghost use Rattle.protocol.specs.MemoryFile.{createFile};
 
-// A client's next version structure, from the counts that a check gave, into 98 lent bytes.
+// A client's next version structure, from its memory file and the counts that a check gave, into 98 lent bytes.
 #[no_mangle]
-pub extern "C" fn sundr_create(
+pub extern "C" fn sundr_memory_create(
     users: u8,
     user: u8,
-    memory: &[u8],
+    file: &[u8],
     counts: &[u32],
     handle: &[u8],
     out: &mut [u8],
 ) -> u64
-    ensures answer { λ r. ⌜ r ≡ plainWord (createOf users user (now (memory .entry)) (now (counts .entry)) (now (handle .entry))
+    ensures answer { λ r. ⌜ r ≡ plainWord (createFile users user (now (file .entry)) (now (counts .entry)) (now (handle .entry))
         (length (now (out .entry)))) ⌝ }
-    ensures buffer { λ r. ⌜ now (out .exit) ≡ left (createOf users user (now (memory .entry)) (now (counts .entry)) (now (handle .entry))
+    ensures buffer { λ r. ⌜ now (out .exit) ≡ left (createFile users user (now (file .entry)) (now (counts .entry)) (now (handle .entry))
         (length (now (out .entry)))) (now (out .entry)) ⌝ }
 {
-    refusal::check_word(create::create(users, user, memory, counts, handle, out))
+    refusal::check_word(create::create(users, user, file, counts, handle, out))
 }

@@ -9,6 +9,7 @@ pub mod input;
 pub mod itable;
 pub mod large;
 pub mod many;
+pub mod memory;
 pub mod server;
 pub mod sha256;
 pub mod standing;

@@ -8,8 +8,9 @@ use Rattle.refusal.specs.declared.Refusal.the-variants.{NoRoom, NotHeld}
 use Rattle.store.specs.Place.{blockIn}
 use Rattle.store.specs.Calls.{retrieveInto}
 use Rattle.blockstore.proofs.Laws.{of-place, place-fits, front-copied}
+use Rattle.refusal.proofs.Done.{done-refused, done-accepted}
 use Rattle.blockstore.proofs.Admitted.{Admitted, admitted}
-use Rattle.blockstore.proofs.Calls.{holder-most, done-refused, done-accepted, retrieve-refused, retrieve-none, retrieve-no-room, retrieve-block}
+use Rattle.blockstore.proofs.Calls.{holder-most, retrieve-refused, retrieve-none, retrieve-no-room, retrieve-block}
 use borrow.Author.Needs.{needs}
 use Rattle.blockstore.proofs.retrieve.Statement.{statement}
 use Rattle.blockstore.proofs.retrieve.Tie as tie

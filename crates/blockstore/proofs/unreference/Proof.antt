@@ -4,8 +4,9 @@ use lib.Dec.{eqb}
 use lib.ListN.{length}
 use Rattle.refusal.specs.declared.Refusal.the-variants.{NotHeld}
 use Rattle.store.specs.Calls.{Unreferenced}
+use Rattle.refusal.proofs.Done.{done-refused, done-accepted}
 use Rattle.blockstore.proofs.Admitted.{Admitted, admitted}
-use Rattle.blockstore.proofs.Calls.{holder-most, done-refused, done-accepted, unreference-refused, unreference-none, unreference-one}
+use Rattle.blockstore.proofs.Calls.{holder-most, unreference-refused, unreference-none, unreference-one}
 use borrow.Author.Needs.{needs}
 use Rattle.blockstore.proofs.unreference.Statement.{statement}
 use Rattle.blockstore.proofs.unreference.Tie as tie

@@ -71,7 +71,9 @@ slice-aggregate-ask-2 c =
 ask-requires : tie.Need-ask-requires
 ask-requires c κs =
     let start = c .before .before .before .before .before .before .before .before in
-    let s = start .before .before .before in omega (arith, form-facts _ (s .pre) .remembered)
+    let s = start .before .before .before in
+    let r = form-facts _ (s .pre) .remembered in
+    (start .behind-memory .ensures .1, (omega (arith, r), start .behind-memory .ensures .2))
 
 returns : tie.Need-returns
 returns c =

@@ -112,6 +112,12 @@ enum-told-9 c = search needs
 row-requires-16 : tie.Need-row-requires-16
 row-requires-16 c κs = search needs
 
+enum-told-10 : tie.Need-enum-told-10
+enum-told-10 c = search needs
+
+row-requires-17 : tie.Need-row-requires-17
+row-requires-17 c κs = search needs
+
 returns : tie.Need-returns
 returns c = of-variant (c .row .ensures) (c .before .enum-told .given .1) refl
 
@@ -160,6 +166,9 @@ returns-15 c = of-variant (c .row15 .ensures) (c .before .enum-told8 .given .1) 
 returns-16 : tie.Need-returns-16
 returns-16 c = of-variant (c .row16 .ensures) (c .before .enum-told9 .given .1) refl
 
+returns-17 : tie.Need-returns-17
+returns-17 c = of-variant (c .row17 .ensures) (c .before .enum-told10 .given .1) refl
+
 pub tell-spec : {M : Type 1} → statement M
 tell-spec =
     tie.close
@@ -196,6 +205,8 @@ tell-spec =
     row-requires-15
     enum-told-9
     row-requires-16
+    enum-told-10
+    row-requires-17
     returns
     returns-2
     returns-3
@@ -211,4 +222,5 @@ tell-spec =
     returns-13
     returns-14
     returns-15
-    returns-16)
+    returns-16
+    returns-17)

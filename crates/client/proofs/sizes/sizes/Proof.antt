@@ -16,52 +16,38 @@ returns : tie.Need-returns
 returns c =
     sym (sizes-mean _ _ _ _ _ .refuses (inl (λ f. not-both (c .before .is-user .ensures .1 f) (not-true _ (c .if1 .taken)), refl, refl, refl)))
 
-none-or-one-requires : tie.Need-none-or-one-requires
-none-or-one-requires c κs = search needs
+mul-if2 : tie.Need-mul-if2
+mul-if2 c = search needs
 
 returns-2 : tie.Need-returns-2
 returns-2 c =
-    let known = c .before .before in
-    sym
-    (sizes-mean _ _ _ _ _ .refuses
-    (inr (
-      known .before .is-user .ensures .0 (not-false _ (known .if1 .left)),
-      (λ f. not-both (c .before .none-or-one .ensures .1 (f .none-or-one)) (not-true _ (c .if2 .taken)), refl, refl, refl),
-    )))
-
-mul-if3 : tie.Need-mul-if3
-mul-if3 c = search needs
-
-returns-3 : tie.Need-returns-3
-returns-3 c =
-    let known = c .before .before .before in
+    let known = c .before in
     sym
     (sizes-mean _ _ _ _ _ .refuses
     (inr (known .before .is-user .ensures .0 (not-false _ (known .if1 .left)), (λ f. omega (arith, f .whole), refl, refl, refl))))
 
-returns-4 : tie.Need-returns-4
-returns-4 c =
-    let known = c .before .before .before .before in
+returns-3 : tie.Need-returns-3
+returns-3 c =
+    let known = c .before .before in
     sym
     (sizes-mean _ _ _ _ _ .refuses
     (inr (known .before .is-user .ensures .0 (not-false _ (known .if1 .left)), (λ f. omega (arith, f .at-most), refl, refl, refl))))
 
-returns-5 : tie.Need-returns-5
-returns-5 c =
-    let known = c .before .before .before .before .before in
+returns-4 : tie.Need-returns-4
+returns-4 c =
+    let known = c .before .before .before in
     sym
     (sizes-mean _ _ _ _ _ .refuses
     (inr (known .before .is-user .ensures .0 (not-false _ (known .if1 .left)), (λ f. omega (arith, f .one-mark-each), refl, refl, refl))))
 
-returns-6 : tie.Need-returns-6
-returns-6 c =
-    let fits = c .before .before .before in
-    let known = fits .before .before in
+returns-5 : tie.Need-returns-5
+returns-5 c =
+    let known = c .before .before .before in
     sym
     (sizes-mean _ _ _ _ _ .accepts (
       known .before .is-user .ensures .0 (not-false _ (known .if1 .left)),
       record {
-        none-or-one = fits .before .none-or-one .ensures .0 (not-false _ (fits .if2 .left));
+        none-or-one = inl refl;
         whole = omega arith;
         at-most = omega arith;
         one-mark-each = omega arith;
@@ -74,10 +60,8 @@ sizes-spec =
     (tie.spec
     is-user-requires
     returns
-    none-or-one-requires
+    mul-if2
     returns-2
-    mul-if3
     returns-3
     returns-4
-    returns-5
-    returns-6)
+    returns-5)

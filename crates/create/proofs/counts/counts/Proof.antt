@@ -2,24 +2,17 @@
 use native.Mathlib.Omega.{arith}
 use borrow.Author.Needs.{needs}
 use borrow.Author.Tests.{not-true, not-false}
-use Rattle.create.proofs.Stages.{not-remembered, counts-beyond, last-version, not-next, is-next}
+use Rattle.create.proofs.Stages.{counts-beyond, last-version, not-next, is-next}
 use Rattle.create.proofs.counts.counts.Statement.{statement}
 use Rattle.create.proofs.counts.counts.Tie as tie
-
-remembered-requires : tie.Need-remembered-requires
-remembered-requires c κs = search needs
-
-returns : tie.Need-returns
-returns c = not-remembered _ _ _ _ _ (c .before .remembered .ensures) (not-true _ (c .if1 .taken))
 
 zero-from-requires : tie.Need-zero-from-requires
 zero-from-requires c κs = search needs
 
-returns-2 : tie.Need-returns-2
-returns-2 c =
+returns : tie.Need-returns
+returns c =
     let z = c .before in
-    let m = z .before in
-    counts-beyond _ _ _ _ _ (m .before .remembered .ensures) (not-false _ (m .if1 .left)) _ (z .zero-from .ensures) (not-true _ (c .if2 .taken))
+    counts-beyond _ _ _ _ (z .before .before .before .pre .1 .1) _ (z .zero-from .ensures) (not-true _ (c .if1 .taken))
 
 count-requires : tie.Need-count-requires
 count-requires c κs = search needs
@@ -37,48 +30,42 @@ shared-slice-read-new : tie.Need-shared-slice-read-new
 shared-slice-read-new c = search needs
 
 cast-new : tie.Need-cast-new
-cast-new c = let a = c .before .before .before .before .before .before .before .before .args in omega (arith, c .shared-slice-known3 .given (a .user))
+cast-new c = let a = c .before .before .before .before .before .before .args in omega (arith, c .shared-slice-known3 .given (a .user))
+
+returns-2 : tie.Need-returns-2
+returns-2 c =
+    let n = c .before .before in
+    let z = n .before in
+    last-version _ _ _ _ (z .before .before .before .before .pre .1 .1) _ (z .before .zero-from .ensures) (not-false _ (z .if1 .left)) _ (n .count .ensures) (omega arith)
 
 returns-3 : tie.Need-returns-3
 returns-3 c =
-    let n = c .before .before in
+    let l = c .before in
+    let n = l .before .before in
     let z = n .before in
-    let m = z .before .before in
-    last-version _ _ _ _ _ (m .before .remembered .ensures) (not-false _ (m .if1 .left)) _ (z .before .zero-from .ensures)
-    (not-false _ (z .if2 .left)) _ (n .count .ensures) (omega arith)
+    not-next _ _ _ _ (z .before .before .before .before .pre .1 .1) _ (z .before .zero-from .ensures) (not-false _ (z .if1 .left)) _ (n .count .ensures) (λ e. omega arith)
+    (λ e. omega arith)
 
 returns-4 : tie.Need-returns-4
 returns-4 c =
     let l = c .before in
     let n = l .before .before in
     let z = n .before in
-    let m = z .before .before in
-    not-next _ _ _ _ _ (m .before .remembered .ensures) (not-false _ (m .if1 .left)) _ (z .before .zero-from .ensures)
-    (not-false _ (z .if2 .left)) _ (n .count .ensures) (λ e. omega arith) (λ e. omega arith)
-
-returns-5 : tie.Need-returns-5
-returns-5 c =
-    let l = c .before in
-    let n = l .before .before in
-    let z = n .before in
-    let m = z .before .before in
-    is-next _ _ _ _ _ (m .before .remembered .ensures) (not-false _ (m .if1 .left)) _ (z .before .zero-from .ensures)
-    (not-false _ (z .if2 .left)) _ (n .count .ensures) (λ e. omega arith) (omega arith)
+    is-next _ _ _ _ (z .before .before .before .before .pre .1 .1) _ (z .before .zero-from .ensures) (not-false _ (z .if1 .left)) _ (n .count .ensures) (λ e. omega arith)
+    (omega arith)
 
 pub counts-spec : {M : Type 1} → statement M
 counts-spec =
     tie.close
     (tie.spec
-    remembered-requires
-    returns
     zero-from-requires
-    returns-2
+    returns
     count-requires
     cast-next
     add-next
     mul-new
     shared-slice-read-new
     cast-new
+    returns-2
     returns-3
-    returns-4
-    returns-5)
+    returns-4)

@@ -17,49 +17,35 @@ returns c =
     sym
     (lengths-mean _ _ _ _ _ _ .refuses (inl (λ f. not-both (c .before .is-user .ensures .1 f) (not-true _ (c .if1 .taken)), refl, refl, refl)))
 
-none-or-one-requires : tie.Need-none-or-one-requires
-none-or-one-requires c κs = search needs
-
 returns-2 : tie.Need-returns-2
 returns-2 c =
-    let u = c .before .before in
+    let u = c .before in
     sym
     (lengths-mean _ _ _ _ _ _ .refuses
-    (inr (
-      u .before .is-user .ensures .0 (not-false _ (u .if1 .left)),
-      (λ f. not-both (c .before .none-or-one .ensures .1 (f .none-or-one)) (not-true _ (c .if2 .taken)), refl, refl, refl),
-    )))
+    (inr (u .before .is-user .ensures .0 (not-false _ (u .if1 .left)), (λ f. omega arith, refl, refl, refl))))
 
 returns-3 : tie.Need-returns-3
 returns-3 c =
-    let u = c .before .before .before in
+    let u = c .before .before in
     sym
     (lengths-mean _ _ _ _ _ _ .refuses
     (inr (u .before .is-user .ensures .0 (not-false _ (u .if1 .left)), (λ f. omega arith, refl, refl, refl))))
 
 returns-4 : tie.Need-returns-4
 returns-4 c =
-    let u = c .before .before .before .before in
+    let u = c .before .before .before in
     sym
     (lengths-mean _ _ _ _ _ _ .refuses
     (inr (u .before .is-user .ensures .0 (not-false _ (u .if1 .left)), (λ f. omega arith, refl, refl, refl))))
 
 returns-5 : tie.Need-returns-5
 returns-5 c =
-    let u = c .before .before .before .before .before in
-    sym
-    (lengths-mean _ _ _ _ _ _ .refuses
-    (inr (u .before .is-user .ensures .0 (not-false _ (u .if1 .left)), (λ f. omega arith, refl, refl, refl))))
-
-returns-6 : tie.Need-returns-6
-returns-6 c =
-    let fits = c .before .before .before in
-    let u = fits .before .before in
+    let u = c .before .before .before in
     sym
     (lengths-mean _ _ _ _ _ _ .accepts (
       u .before .is-user .ensures .0 (not-false _ (u .if1 .left)),
       record {
-        none-or-one = fits .before .none-or-one .ensures .0 (not-false _ (fits .if2 .left));
+        none-or-one = inl refl;
         sixteen = omega arith;
         handle-long = omega arith;
         answer-long = omega arith;
@@ -68,13 +54,4 @@ returns-6 c =
 
 pub lengths-spec : {M : Type 1} → statement M
 lengths-spec =
-    tie.close
-    (tie.spec
-    is-user-requires
-    returns
-    none-or-one-requires
-    returns-2
-    returns-3
-    returns-4
-    returns-5
-    returns-6)
+    tie.close (tie.spec is-user-requires returns returns-2 returns-3 returns-4 returns-5)

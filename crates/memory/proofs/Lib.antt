@@ -1,0 +1,4 @@
+pub mod Form
+pub mod Laid
+pub mod Judged
+pub mod Calls
