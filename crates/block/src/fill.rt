@@ -15,8 +15,8 @@ fn slot(number: u64, value: &[u8], out: &mut [u8])
     ensures { out.new ≡ bytes8 number ++ value.now }
 {
     let b = layout::u64_bytes(number);
-    bytes::copy(&b, out);
-    bytes::copy(value, &mut out[VALUE..SLOT]);
+    layout::copy(&b, out);
+    layout::copy(value, &mut out[VALUE..SLOT]);
 }
 
 // Writes the block with these entries, each a number and 32 bytes. All of its bytes are written.

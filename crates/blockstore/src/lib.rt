@@ -135,7 +135,7 @@ pub fn retrieve(store: &[u8], hash: &[u8], out: &mut [u8]) -> Given
     if out.len() < block.len() {
         return Given::Refused(Refusal::NoRoom);
     }
-    Given::Number(bytes::copy(block, out))
+    Given::Number(layout::copy(block, out))
 }
 
 // Takes one from a user's count at place p, or does nothing at zero. Gives how many it took.

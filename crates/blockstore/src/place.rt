@@ -47,7 +47,7 @@ pub(crate) fn put(store: &mut [u8], at: usize, new: &[u8])
     requires { at + length new.now ≤ length store.old }
     ensures { store.new ≡ put_at store.old at new.now }
 {
-    bytes::copy(new, &mut store[at..]);
+    layout::copy(new, &mut store[at..]);
 }
 
 // Writes a user's count at place p.

@@ -81,7 +81,7 @@ pub fn check(users: u8, user: u8, file: &[u8], list: &[u8], marks: &[u8]) -> Jud
             again,
         };
     };
-    bytes::copy(held, &mut again);
+    layout::copy(held, &mut again);
     Judged {
         verdict,
         counts,

@@ -12,7 +12,7 @@ fn write_count(x: u32, out: &mut [u8])
     ensures { out.new ≡ bytes4 x }
 {
     let b = layout::u32_bytes(x);
-    bytes::copy(&b, out);
+    layout::copy(&b, out);
 }
 
 fn write_counts(counts: &[u32], out: &mut [u8])
@@ -36,6 +36,6 @@ pub(crate) fn write(user: u8, handle: &[u8], counts: &[u32], out: &mut [u8])
 {
     out[KIND] = 1;
     out[OWNER] = user;
-    bytes::copy(handle, &mut out[HANDLE..COUNTS]);
+    layout::copy(handle, &mut out[HANDLE..COUNTS]);
     write_counts(counts, &mut out[COUNTS..SIZE]);
 }

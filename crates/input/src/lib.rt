@@ -91,7 +91,7 @@ fn take_apart(sent: &[u8], n: usize, marks: &mut [u8], list: &mut [u8])
     let mut i = 0;
     while i < n {
         marks[i] = sent[MARKED * i];
-        bytes::copy(
+        layout::copy(
             &sent[MARKED * i + 1..MARKED * i + MARKED],
             &mut list[SIZE * i..SIZE * i + SIZE],
         );

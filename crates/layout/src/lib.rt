@@ -1,9 +1,19 @@
 // All that is about byte strings: the layouts' numbers, read at every place with zeros past the end, and
 // as bytes; 32 bytes from a place; two strings compared; what is unused, zero, and made so. What these
 // numbers and the parts of a byte string are, and the laws of both, stands in specs/ and proofs/.
-ghost use Rattle.std.specs.Prelude.{◌≡◌, ◌&&◌, ◌+◌, ◌*◌, ◌-◌, ◌≤◌, min, eqb, ◌++◌, length, get_or, take, replicate};
+ghost use Rattle.std.specs.Prelude.{◌≡◌, ◌&&◌, ◌+◌, ◌*◌, ◌-◌, ◌≤◌, min, eqb, ◌++◌, length, get_or, take, drop, replicate};
 ghost use Rattle.layout.specs.Bytes.{two, four, eight, bytes2, bytes4, bytes8, bytes_at};
 ghost use Rattle.layout.specs.Strings.{same, zeros};
+
+// Copies as many bytes as both have to the front of `to`, and says how many; the rest of `to` stays.
+pub fn copy(from: &[u8], to: &mut [u8]) -> usize
+    ensures count { result ≡ min (length from.now) (length to.old) }
+    ensures copied { to.new ≡ take result from.now ++ drop result to.old }
+{
+    let n = from.len().min(to.len());
+    to[..n].copy_from_slice(&from[..n]);
+    n
+}
 
 // How many bytes there are from a place on.
 fn rest(b: &[u8], at: usize) -> usize
@@ -130,11 +140,11 @@ pub fn bytes32(b: &[u8], at: usize) -> [u8; 32]
     let mut out = [0u8; 32];
     let n = rest(b, at);
     if 32 <= n {
-        bytes::copy(&b[at..at + 32], &mut out);
+        copy(&b[at..at + 32], &mut out);
         return out;
     }
     if 0 < n {
-        bytes::copy(&b[at..at + n], &mut out);
+        copy(&b[at..at + n], &mut out);
     }
     out
 }

@@ -21,7 +21,7 @@ fn entry(b: &[u8], number: u64) -> [u8; ENTRY]
     }
     let handle = block::value(b, j);
     out[0] = 1;
-    bytes::copy(&handle, &mut out[1..ENTRY]);
+    layout::copy(&handle, &mut out[1..ENTRY]);
     out
 }
 
@@ -40,7 +40,7 @@ pub(crate) fn write(numbers: &[u64], counts: &[u8], paths: &[u8], out: &mut [u8]
         let at = block::SIZE * (behind - 1);
         let e = entry(&paths[at..at + block::SIZE], numbers[q]);
         let to = ENTRY * q;
-        bytes::copy(&e, &mut out[to..to + ENTRY]);
+        layout::copy(&e, &mut out[to..to + ENTRY]);
         q += 1;
     }
 }

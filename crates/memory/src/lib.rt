@@ -96,7 +96,7 @@ fn lay(state: u8, x: &[u8], out: &mut [u8])
 {
     out[KIND] = 7;
     out[STATE] = state;
-    bytes::copy(x, &mut out[STRUCTURE..FILE]);
+    layout::copy(x, &mut out[STRUCTURE..FILE]);
 }
 
 // The file of what a client remembered before there were files: no bytes, or one structure, which is taken
@@ -156,7 +156,7 @@ pub fn over(users: u8, user: u8, old: &[u8], out: &mut [u8]) -> Check
         return c;
     };
     let file = file_of(old);
-    bytes::copy(&file, out);
+    layout::copy(&file, out);
     Check::Passed
 }
 
@@ -175,7 +175,7 @@ pub fn back(users: u8, user: u8, file: &[u8], out: &mut [u8]) -> Given
     if pending(file) {
         return Given::Refused(Refusal::Pending);
     }
-    let n = bytes::copy(held(file), out);
+    let n = layout::copy(held(file), out);
     Given::Number(n)
 }
 

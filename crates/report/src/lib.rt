@@ -37,6 +37,6 @@ pub fn print(input: &[u8], out: &mut [u8]) -> Printed
     if out.len() < n {
         return Printed::Refused(Refusal::NoRoom);
     }
-    bytes::copy(&text[..n], out);
+    layout::copy(&text[..n], out);
     Printed::Bytes(n)
 }

@@ -8,7 +8,7 @@ pub(crate) fn put(text: &[u8], out: &mut [u8], at: usize) -> usize
     requires { at + length text.now ≤ length out.old }
     ensures { Appended out.old at text.now out.new result }
 {
-    bytes::copy(text, &mut out[at..]);
+    layout::copy(text, &mut out[at..]);
     at + text.len()
 }
 

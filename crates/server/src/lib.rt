@@ -80,7 +80,7 @@ fn replace(records: &mut [u8], x: &[u8], owner: usize)
         ++ (x.now ++ drop (size * owner + size) records.old) }
 {
     let at = SIZE * owner;
-    bytes::copy(&x[0..SIZE], &mut records[at..]);
+    layout::copy(&x[0..SIZE], &mut records[at..]);
 }
 
 // A commit where the sixteen records are lent by themselves. Writes the record's 98 bytes if it is

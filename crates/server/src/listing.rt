@@ -34,7 +34,7 @@ fn write_one(records: &[u8], v: usize, out: &mut [u8], at: usize) -> usize
         return at;
     }
     let from = SIZE * v;
-    bytes::copy(&records[from..from + SIZE], &mut out[at..]);
+    layout::copy(&records[from..from + SIZE], &mut out[at..]);
     at + SIZE
 }
 

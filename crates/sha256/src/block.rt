@@ -4,7 +4,6 @@ ghost use Rattle.sha256.specs.Sha256.{added, compressed};
 ghost use Rattle.sha256.specs.WordsTaken.{loaded};
 
 use crate::{K, State, rounds};
-use std::num::wrapping_add_u32;
 
 // The words of the block. Its 64 bytes are there by contract: layout::u32_at would ask for their end
 // again, at 8 % more instructions.
@@ -30,14 +29,14 @@ fn add(s: State, r: State) -> State
     ensures { result ≡ added s r }
 {
     State {
-        a: wrapping_add_u32(r.a, s.a),
-        b: wrapping_add_u32(r.b, s.b),
-        c: wrapping_add_u32(r.c, s.c),
-        d: wrapping_add_u32(r.d, s.d),
-        e: wrapping_add_u32(r.e, s.e),
-        f: wrapping_add_u32(r.f, s.f),
-        g: wrapping_add_u32(r.g, s.g),
-        h: wrapping_add_u32(r.h, s.h),
+        a: r.a.wrapping_add(s.a),
+        b: r.b.wrapping_add(s.b),
+        c: r.c.wrapping_add(s.c),
+        d: r.d.wrapping_add(s.d),
+        e: r.e.wrapping_add(s.e),
+        f: r.f.wrapping_add(s.f),
+        g: r.g.wrapping_add(s.g),
+        h: r.h.wrapping_add(s.h),
     }
 }
 

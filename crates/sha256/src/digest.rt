@@ -11,7 +11,7 @@ pub(crate) fn store(out: &mut [u8], i: usize, x: u32)
     ensures { out.new ≡ take i out.old ++ (bytes4 x ++ drop (i + 4) out.old) }
 {
     let b = layout::u32_bytes(x);
-    bytes::copy(&b, &mut out[i..i + 4]);
+    layout::copy(&b, &mut out[i..i + 4]);
 }
 
 // Writes the eight words of a hash value.

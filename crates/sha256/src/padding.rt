@@ -46,7 +46,7 @@ fn finish(message: &[u8], s: State) -> State
     let bits = (message.len() * 8) as u32;
     let mut v = s;
     let mut last = [0u8; 64];
-    bytes::copy(&message[from..], &mut last);
+    layout::copy(&message[from..], &mut last);
     last[rest] = 0x80;
     if 56 <= rest {
         v = block::compress(v, &last);

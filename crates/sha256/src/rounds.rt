@@ -10,7 +10,6 @@ ghost use Rattle.sha256.specs.Internal.Rolling.{queue_after, rounds_over};
 
 use crate::State;
 use crate::word::{big_sigma0, big_sigma1, choose, majority, small_sigma0, small_sigma1};
-use std::num::wrapping_add_u32;
 
 // One round. What waits least for the round before goes first: the majority, of which that round has computed a part,
 // and the sum k + w.
@@ -18,12 +17,12 @@ fn round(s: State, k: u32, w: u32) -> State
     ensures { result ≡ round_of s k w }
 {
     let m = majority(s.a, s.b, s.c);
-    let h = wrapping_add_u32(s.h, wrapping_add_u32(k, w));
-    let t1 = wrapping_add_u32(wrapping_add_u32(h, choose(s.e, s.f, s.g)), big_sigma1(s.e));
-    let e = wrapping_add_u32(s.d, t1);
-    let t2 = wrapping_add_u32(big_sigma0(s.a), m);
+    let h = s.h.wrapping_add(k.wrapping_add(w));
+    let t1 = h.wrapping_add(choose(s.e, s.f, s.g)).wrapping_add(big_sigma1(s.e));
+    let e = s.d.wrapping_add(t1);
+    let t2 = big_sigma0(s.a).wrapping_add(m);
     State {
-        a: wrapping_add_u32(t1, t2),
+        a: t1.wrapping_add(t2),
         b: s.a,
         c: s.b,
         d: s.c,
@@ -42,9 +41,9 @@ fn roll(w: &mut [u32; 16], t: usize)
     ensures leaves { w.new ≡ rolled w.old t }
 {
     let x = small_sigma1(w[(t + 14) % 16]);
-    let y = wrapping_add_u32(x, w[(t + 9) % 16]);
-    let z = wrapping_add_u32(y, small_sigma0(w[(t + 1) % 16]));
-    w[(t + 16) % 16] = wrapping_add_u32(z, w[t % 16]);
+    let y = x.wrapping_add(w[(t + 9) % 16]);
+    let z = y.wrapping_add(small_sigma0(w[(t + 1) % 16]));
+    w[(t + 16) % 16] = z.wrapping_add(w[t % 16]);
 }
 
 // Round t, by its constant and the word at its place, which gives way to the word sixteen after it.

@@ -66,7 +66,7 @@ pub extern "C" fn sundr_memory_check(
             0
         }
         Verdict::Again => {
-            bytes::copy(&judged.again, again);
+            layout::copy(&judged.again, again);
             255
         }
         Verdict::Refused(r) => refusal::refusal_word(r),

@@ -13,7 +13,7 @@ pub(crate) fn read(bytes: &[u8]) -> Server
 {
     let users = bytes[0];
     let mut records = [0u8; RECORDS];
-    bytes::copy(&bytes[1..], &mut records);
+    layout::copy(&bytes[1..], &mut records);
     Server { users, records }
 }
 
@@ -22,5 +22,5 @@ pub(crate) fn write(server: Server, out: &mut [u8])
     ensures { out.new ≡ bytes_of server }
 {
     out[0] = server.users;
-    bytes::copy(&server.records, &mut out[1..]);
+    layout::copy(&server.records, &mut out[1..]);
 }

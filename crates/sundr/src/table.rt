@@ -43,7 +43,7 @@ pub extern "C" fn sundr_lookup(handle: &[u8], number: u64, path: &[u8], out: &mu
     let answer = looked.answer;
     match answer {
         Outcome::Found => {
-            bytes::copy(&looked.handle, out);
+            layout::copy(&looked.handle, out);
             refusal::word(0, 1, 0)
         }
         Outcome::Absent => refusal::word(0, 0, 0),

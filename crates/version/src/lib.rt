@@ -66,7 +66,7 @@ fn padded(x: &[u8]) -> [u8; SIZE]
     ensures { (i : ℕ) → i < size → get_or result i 0 ≡ get_or x.now i 0 }
 {
     let mut record = [0u8; SIZE];
-    bytes::copy(x, &mut record);
+    layout::copy(x, &mut record);
     record
 }
 
@@ -75,7 +75,7 @@ fn read_handle(x: &[u8]) -> [u8; 32]
     ensures { result ≡ bytes_at x.now 2 32 }
 {
     let mut handle = [0u8; 32];
-    bytes::copy(&x[HANDLE..COUNTS], &mut handle);
+    layout::copy(&x[HANDLE..COUNTS], &mut handle);
     handle
 }
 
