@@ -16,7 +16,8 @@ import sys
 
 WORD = r"[^\s(){}.;,@\"«»:`\[\]]+"
 HEAD = re.compile(rf"^(\s*)(?:(?:abbrev|unfoldable|pub|record|data) )*({WORD})((?: [^\s:()]+)*) :(?:\s|$)")
-# Where two names would fall together, the lemma, the field or the constructor beside the definition gets this one.
+# Where two names would fall together, the lemma, the field or the constructor beside the definition gets this one;
+# and getD is get_or today.
 APART = {
     "and-then": "and_then_means",
     "answer_at": "answer_at_is",
@@ -28,6 +29,8 @@ APART = {
     "cut-run": "cut_run_holds",
     "entries-of": "entries_of_is",
     "forked-run": "forked_run_holds",
+    "getD-behind": "get_or_behind",
+    "getD-values": "get_or_values",
     "goes_on": "goes_on_to",
     "held-own": "held_own_is",
     "is-at-or-before": "is_at_or_before_means",

@@ -20,19 +20,19 @@ pub length_bytes8 : (x : ℕ) → length (bytes8 x) ≡ 8
 unfolding bytes8 bytes4
 length_bytes8 x = refl
 
-get_d_behind : (b : List ℕ) (at k n : ℕ) → n ≡ at + k → get_or b n 0 ≡ get_or (drop at b) k 0
-get_d_behind b at k n e = rw (e, get_or-drop)
+get_or_behind : (b : List ℕ) (at k n : ℕ) → n ≡ at + k → get_or b n 0 ≡ get_or (drop at b) k 0
+get_or_behind b at k n e = rw (e, get_or-drop)
 
 pub eight_drop : (b : List ℕ) (at : ℕ) → eight b at ≡ eight (drop at b) 0
 unfolding eight four
 eight_drop b at =
     rw (
-      get_d_behind b at 0 at (omega arith),
-      get_d_behind b at 1 (at + 1) (omega arith),
-      get_d_behind b at 2 (at + 2) (omega arith),
-      get_d_behind b at 3 (at + 3) (omega arith),
-      get_d_behind b at 4 (at + 4) (omega arith),
-      get_d_behind b at 5 (at + 4 + 1) (omega arith),
-      get_d_behind b at 6 (at + 4 + 2) (omega arith),
-      get_d_behind b at 7 (at + 4 + 3) (omega arith),
+      get_or_behind b at 0 at (omega arith),
+      get_or_behind b at 1 (at + 1) (omega arith),
+      get_or_behind b at 2 (at + 2) (omega arith),
+      get_or_behind b at 3 (at + 3) (omega arith),
+      get_or_behind b at 4 (at + 4) (omega arith),
+      get_or_behind b at 5 (at + 4 + 1) (omega arith),
+      get_or_behind b at 6 (at + 4 + 2) (omega arith),
+      get_or_behind b at 7 (at + 4 + 3) (omega arith),
     )

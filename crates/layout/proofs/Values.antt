@@ -14,15 +14,15 @@ unfolding values
 length_values f i zero = refl
 length_values f i (suc k) = ap suc (length_values f (suc i) k)
 
-pub get_d_values : (f : ℕ → ℕ) (i k j : ℕ) → j < k → get_or (values f i k) j 0 ≡ f (i + j)
+pub get_or_values : (f : ℕ → ℕ) (i k j : ℕ) → j < k → get_or (values f i k) j 0 ≡ f (i + j)
 unfolding values
-get_d_values f i zero j h = absurd (omega arith)
-get_d_values f i (suc k) zero h = let e : i ≡ i + 0 = omega arith in ap f e
-get_d_values f i (suc k) (suc j) h =
-    let e : suc i + j ≡ i + suc j = omega arith in get_d_values f (suc i) k j (omega arith) ∙ ap f e
+get_or_values f i zero j h = absurd (omega arith)
+get_or_values f i (suc k) zero h = let e : i ≡ i + 0 = omega arith in ap f e
+get_or_values f i (suc k) (suc j) h =
+    let e : suc i + j ≡ i + suc j = omega arith in get_or_values f (suc i) k j (omega arith) ∙ ap f e
 
 pub value_at : (f : ℕ → ℕ) (k j : ℕ) → j < k → get_or (values f 0 k) j 0 ≡ f j
-value_at f k j h = let e : 0 + j ≡ j = omega arith in get_d_values f 0 k j h ∙ ap f e
+value_at f k j h = let e : 0 + j ≡ j = omega arith in get_or_values f 0 k j h ∙ ap f e
 
 -- Functions that agree at each place have the same values.
 pub values_cong : (f g : ℕ → ℕ) (i k : ℕ) → ((j : ℕ) → i ≤ j → j < i + k → f j ≡ g j) → values f i k ≡ values g i k
@@ -39,7 +39,7 @@ values_part b a n h =
     (λ i l.
     let k : i < n = omega (arith, length_values (λ i. get_or b (a + i) 0) 0 n) in
     let z : 0 + i ≡ i = omega arith in
-    get_d_values _ 0 n i k ∙ (ap (λ j. get_or b (a + j) 0) z ∙ (sym (get_or-drop a b i 0) ∙ sym (get_or-take n (drop a b) i 0 k))))
+    get_or_values _ 0 n i k ∙ (ap (λ j. get_or b (a + j) 0) z ∙ (sym (get_or-drop a b i 0) ∙ sym (get_or-take n (drop a b) i 0 k))))
 
 -- All of them.
 pub values_whole : (b : List ℕ) (n : ℕ) → length b ≡ n → bytes_at b 0 n ≡ b
@@ -62,10 +62,10 @@ rest_copied b s a m n few h past e =
     let l : length s ≡ m = rw e (length-take-le m (drop a b) (simp length-drop (omega arith))) in
     let r : length (s ++ drop m (replicate {A = ℕ} n 0)) ≡ n = simp (length-append, length-drop, length-replicate) (omega arith) in
     rw (take-length, l)
-    (ext_get_or 0 _ _ (r ∙ sym (length_values _ 0 n))
+    (ext_get_or {A = ℕ} 0 _ _ (r ∙ sym (length_values _ 0 n))
     (λ i k.
     let z : 0 + i ≡ i = omega arith in
-    let v : get_or (bytes_at b a n) i 0 ≡ get_or b (a + i) 0 = get_d_values _ 0 n i (omega arith) ∙ ap (λ j. get_or b (a + j) 0) z in
+    let v : get_or (bytes_at b a n) i 0 ≡ get_or b (a + i) 0 = get_or_values _ 0 n i (omega arith) ∙ ap (λ j. get_or b (a + j) 0) z in
     elim (dec_le m i) [
       | yes f ↦ rw (v, get_or-eq_default b 0 (past i f (omega arith))) (zero_after s m n i l f (omega arith))
       | no f ↦ rw (v, get_or-append s (drop m (replicate n 0)) 0 i (omega arith), e, get_or-take m (drop a b) i 0 (omega arith), get_or-drop a b i 0)

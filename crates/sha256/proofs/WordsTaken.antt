@@ -3,7 +3,7 @@
 use Rattle.std.proofs.Common.{◌≡◌, ℕ, zero, suc, ◌+◌, ◌*◌, ◌%◌, ◌<◌, ◌≤◌, cond, ltb, List, length, get_or, sym, refl, ap, ◌∙◌, ⊎_elim, eq-or-lt_of_le, add-one, arith, length-set, get_or-set_other, get_or-set_same, ltb-false, ltb-true, le-ltb, lt-ltb}
 use Rattle.search.proofs.Bool.{bool_cases}
 use Rattle.layout.specs.Bytes.{four}
-use Rattle.layout.proofs.Values.{length_values, get_d_values}
+use Rattle.layout.proofs.Values.{length_values, get_or_values}
 use Rattle.sha256.specs.Sha256.{W}
 use Rattle.sha256.specs.WordsTaken.{loaded, next_word, rolled, Queues, WordsTaken, QueuesHeld}
 use Rattle.sha256.proofs.Recurrence.{recurrence, sixteen_on}
@@ -23,7 +23,7 @@ before_the_first b =
       stands = λ u p q r.
           let m : u % 16 ≡ u = omega arith in
           let n : 0 + u ≡ u = omega arith in
-          rw (m, get_d_values (λ t. four b (4 * t)) 0 16 u q, n) (sym ((recurrence b u).0 q));
+          rw (m, get_or_values (λ t. four b (4 * t)) 0 16 u q, n) (sym ((recurrence b u).0 q));
     }
 
 module _ (b : List ℕ) (t : ℕ) (w : List ℕ) (R : Window b t w) where
