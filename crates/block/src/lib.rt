@@ -1,6 +1,8 @@
 // Blocks of an i-table: what stands in a block's bytes, read, and written by `fill::fill`; one block
 // judged well formed where a link leads to it; and its slots searched for an i-number. Each call takes
 // any bytes; past their end stand zeros. Nothing here hashes, and nothing is known of other blocks.
+#![tactic(auto)]
+
 pub mod fill;
 
 ghost use Rattle.std.specs.Prelude.{◌≡◌, true, ◌-◌, eqb};

@@ -2,6 +2,8 @@
 // blocks, from which anybody retrieves them by their hash, and which gives a place back when no user
 // counts its block any more. Any bytes of the right length may be lent as a store; nothing is kept
 // between calls. Who a user is, is not asked here: the server authenticates its users elsewhere.
+#![tactic(auto)]
+
 mod place;
 mod places;
 

@@ -1,5 +1,7 @@
 // A block from the server's reply or from the client's cache: which of the two is the wanted one,
 // by its hash, and that part itself, where it lies. Nothing is copied, written or kept between calls.
+#![tactic(auto)]
+
 ghost use Rattle.std.specs.Prelude.{◌≡◌, ◌≤◌, length};
 ghost use Rattle.cache.specs.Choose.{fits as fits_of, choose as chooseOf, handed, handed_of};
 ghost use Rattle.cache.specs.Choice.{answer_of};

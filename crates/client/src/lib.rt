@@ -7,6 +7,8 @@
 // crate `protocol`, for every input. All that is lent is only read, and nothing is kept between calls:
 // the structure is made of the counts, and signed, when the caller wants it. Signatures are not verified
 // here: each record comes with a mark.
+#![tactic(auto)]
+
 mod forms;
 mod next;
 mod order;

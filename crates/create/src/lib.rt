@@ -6,6 +6,8 @@
 // judged here: counts of other users that are lower than the current structure's are written as they are.
 // Whether the counts are those of a check, and whether the server's list has gone on since, the caller has
 // to see to, and that the structure is written as pending before the next call. Nothing is kept between calls.
+#![tactic(auto)]
+
 mod counts;
 mod lengths;
 mod record;

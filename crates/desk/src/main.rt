@@ -2,6 +2,8 @@
 //
 // What is printed of an input is proved, in the crate `report`; here it is only read and written. A
 // read that fails counts as the input's end.
+#![tactic(auto)]
+
 mod stream;
 
 use libc::{STDIN_FILENO, STDOUT_FILENO};

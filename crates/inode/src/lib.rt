@@ -2,6 +2,8 @@
 // and of a large file's, whose inode names what its own hashes do not by an indirect block. Each
 // hash is compared before anything else of what it covers is believed. Nothing is written, and
 // nothing is kept between calls; how the file handle was found is the lookup's work.
+#![tactic(auto)]
+
 mod large;
 
 ghost use Rattle.std.specs.Prelude.{◌≡◌, ◌*◌, ◌≤◌, ◌<◌};

@@ -4,6 +4,8 @@
 //
 // What an input's parts are and what is to be said of it stands in specs/. The report is that, for
 // every input of any length.
+#![tactic(auto)]
+
 ghost use Rattle.std.specs.Prelude.{◌≡◌, true, ◌⊎◌, ◌*◌, ◌-◌, ◌≤◌, length, take, drop};
 ghost use Rattle.refusal.specs.Answer.{accepted, and_then};
 ghost use Rattle.refusal.specs.Refusal.{checked as checkedOf};

@@ -1,6 +1,7 @@
 // The i-table (the table of files), its blocks, the lookup along one path of them, and the check of
 // a file's inode and block, as definitions, with the theorems about them. The code that meets these
 // definitions is in the crates above; here is only the type of what leads to a block.
+#![tactic(auto)]
 
 // What leads to a block: the kind due there, 0 for the root; the number in the slot that names the
 // block, which the root has not; the bound below which its numbers stay, 0 where there is none; and

@@ -1,17 +1,20 @@
 // All that is about byte strings: the layouts' numbers, read at every place with zeros past the end, and
 // as bytes; 32 bytes from a place; two strings compared; what is unused, zero, and made so. What these
 // numbers and the parts of a byte string are, and the laws of both, stands in specs/ and proofs/.
+#![tactic(auto)]
+
 ghost use Rattle.std.specs.Prelude.{◌≡◌, ◌&&◌, ◌+◌, ◌*◌, ◌-◌, ◌≤◌, min, eqb, ◌++◌, length, get_or, take, drop, replicate};
 ghost use Rattle.layout.specs.Bytes.{two, four, eight, bytes2, bytes4, bytes8, bytes_at};
 ghost use Rattle.layout.specs.Strings.{same, zeros};
 
-// Copies as many bytes as both have to the front of `to`, and says how many; the rest of `to` stays.
+// Copies all of `from` to the front of `to`, and says how many bytes that was; the rest of `to` stays.
 pub fn copy(from: &[u8], to: &mut [u8]) -> usize
-    ensures count { result ≡ min (length from.now) (length to.old) }
-    ensures copied { to.new ≡ take result from.now ++ drop result to.old }
+    requires { length from.now ≤ length to.old }
+    ensures count { result ≡ length from.now }
+    ensures copied { to.new ≡ take (length from.now) from.now ++ drop (length from.now) to.old }
 {
-    let n = from.len().min(to.len());
-    to[..n].copy_from_slice(&from[..n]);
+    let n = from.len();
+    to[..n].copy_from_slice(from);
     n
 }
 

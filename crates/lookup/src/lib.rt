@@ -1,5 +1,7 @@
 // The lookup of an i-number under an i-handle, along one path of blocks, root first. A block's hash
 // is checked before anything else of it is read. Nothing is remembered between calls.
+#![tactic(auto)]
+
 ghost use Rattle.std.specs.Prelude.{◌≡◌, ◌*◌, ◌≤◌, length};
 ghost use Rattle.refusal.specs.Refusal.{refusal};
 ghost use Rattle.itable.specs.Block.{size, kind, to_root};

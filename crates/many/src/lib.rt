@@ -5,6 +5,8 @@
 // Paths of one table share blocks, and equal bytes have equal hashes. So a block that is byte for
 // byte the last one consulted at its depth is not hashed again. Only its hash is remembered, never
 // what was judged of it, and nothing beyond the call.
+#![tactic(auto)]
+
 mod entries;
 mod walk;
 

@@ -2,6 +2,8 @@
 // sent, pending or none. It is judged, read, made pending, marked as sent, and moved over and back here. The
 // check and the making step read it by `given`, `pending` and `held`. No call knows a disk: that a file is
 // replaced whole, and written before anything leaves, the caller has to see to. Nothing is kept between calls.
+#![tactic(auto)]
+
 pub mod given;
 
 ghost use Rattle.std.specs.Prelude.{◌≡◌, ◌&&◌, ◌⊎◌, ◌∷◌, eqb, length, drop, replicate};

@@ -1,6 +1,7 @@
 // SUNDR's serialized protocol: version structures, the client's check of a version structure list,
 // and the server's list, as definitions, with the theorems about every run. The code that meets
 // these definitions is in the crates above; here is only the type of the server's list.
+#![tactic(auto)]
 
 // The bytes of sixteen records, one for each user that there can be.
 pub const RECORDS: usize = 1568;

@@ -3,6 +3,8 @@
 // a variant stands for is said once, in specs/Refusal.antt, and every contract cites that.
 //
 // Numbers 18 and 19 are kept for what is planned above this base.
+#![tactic(auto)]
+
 ghost use Rattle.std.specs.Prelude.{◌≡◌};
 ghost use Rattle.refusal.specs.Answer.{refused};
 ghost use Rattle.refusal.specs.Refusal.{refusal, said, given};

@@ -3,6 +3,8 @@
 // `refuse` with the refusal's number and both positions. It reads and prints nothing itself.
 //
 // The lines stand in specs/Printed.antt. What is written is that, for every input of any length.
+#![tactic(auto)]
+
 mod lines;
 mod text;
 

@@ -2,6 +2,8 @@
 // buffer, and changed by a commit, one record at a time. Each call answers as the protocol's
 // definitions say, for every server value, also one that no call made: a user's record is held
 // exactly where its own count is not 0. It checks no signature; a mark says whether one is good.
+#![tactic(auto)]
+
 use protocol::{RECORDS, Server};
 use refusal::{Check, Refusal};
 use version::SIZE;

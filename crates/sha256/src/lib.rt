@@ -4,6 +4,7 @@
 // says whether a hash is a message's. They allocate nothing and keep nothing between calls. They do
 // not hash a message that arrives in parts, nor one that does not end on a whole byte, and do not
 // wipe what they leave on the stack: no message hashed here is secret.
+#![tactic(auto)]
 
 mod block;
 mod digest;

@@ -18,7 +18,9 @@ fn round(s: State, k: u32, w: u32) -> State
 {
     let m = majority(s.a, s.b, s.c);
     let h = s.h.wrapping_add(k.wrapping_add(w));
-    let t1 = h.wrapping_add(choose(s.e, s.f, s.g)).wrapping_add(big_sigma1(s.e));
+    let t1 = h
+        .wrapping_add(choose(s.e, s.f, s.g))
+        .wrapping_add(big_sigma1(s.e));
     let e = s.d.wrapping_add(t1);
     let t2 = big_sigma0(s.a).wrapping_add(m);
     State {

@@ -1,6 +1,8 @@
 // Version structures: where their parts stand, by which a record is also written. Its bytes are read and
 // judged well formed, by themselves and as what a user remembers, and two structures are compared by their counts.
 // No call knows anything of lists or signatures, and each takes whatever bytes or counts it is given.
+#![tactic(auto)]
+
 mod sides;
 
 ghost use Rattle.std.specs.Prelude.{◌≡◌, true, ◌⊎◌, ℕ, ◌-◌, ◌<◌, eqb, length, get_or};

@@ -1,6 +1,7 @@
 // The writer of an i-table: the blocks of a table of files, leaves first and the root last, into a
 // lent buffer. All tests come before the first store. The i-handle is the hash of the last block,
 // which the caller takes; nothing is read but what is lent, and nothing is kept between calls.
+#![tactic(auto)]
 
 mod count;
 mod row;

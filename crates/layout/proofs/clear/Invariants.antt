@@ -1,0 +1,16 @@
+-- The bytes passed are zero, and those before them are as they were.
+-- The invariant: up to i the bytes are those kept, then zeros.
+use Prim.Native.Nat.{◌+◌, ◌-◌, ◌≤◌}
+use mathlib.Core.List.{◌++◌}
+use mathlib.Core.Path.{◌≡◌, sym, ap, ◌∙◌}
+use native.Mathlib.Omega.{arith}
+use lib.ListN.{length, take, replicate, length-set}
+use lib.Seq.{take_all}
+use Rattle.layout.proofs.Zeros.{uncleared, cleared}
+use Rattle.layout.proofs.clear.Given as goal
+
+abbrev pub invariant-loop-i : goal.invariant-loop-i
+invariant-loop-i l = (l.from ≤ l.i) × (l.i - l.from ≤ length l.out - l.from) × (length l.out ≡ length l.initial.out) × (take l.i l.out ≡ take l.from l.initial.out ++ replicate (l.i - l.from) 0)
+
+abbrev pub decreases-loop-i : goal.decreases-loop-i
+decreases-loop-i l = length l.out - l.i

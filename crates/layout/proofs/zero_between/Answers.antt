@@ -1,0 +1,31 @@
+use Prim.Native.Nat.{◌≤◌, ◌-◌, min}
+use mathlib.Core.Bool.{◌&&◌}
+use mathlib.Core.Path.{◌≡◌, sym, ap, ◌∙◌}
+use native.Mathlib.Omega.{arith}
+use lib.Dec.{eqb}
+use lib.ListN.{length, get_or}
+use Rattle.search.proofs.Search.{every_intro}
+use Rattle.layout.specs.Strings.{zeros}
+use Rattle.layout.proofs.Zeros.{zeros_next, zeros_reach}
+use Rattle.layout.proofs.zero_between.Goals as goal
+
+pub loop-x-init : goal.loop-x-init
+unfolding zeros
+loop-x-init c = (c.least-end.ensures, omega arith, omega arith, sym (every_intro _ _ _ (λ j a b. absurd (omega arith))))
+
+pub loop-x-preserved : goal.loop-x-preserved
+loop-x-preserved c =
+    let l = c.loop-x in
+    let a = c.args in (
+      l.invariant.0,
+      omega arith,
+      omega arith,
+      c.still-zero.ensures ∙
+          (ap (λ t. t && eqb (get_or a.b.now l.x 0) 0) l.invariant.3 ∙ sym (zeros_next a.b.now a.from l.x l.invariant.1)),
+    )
+
+pub returns : goal.returns
+returns c =
+    let l = c.loop-x in
+    let a = c.args in
+    l.invariant.3 ∙ zeros_reach a.b.now a.from l.x l.invariant.1 a.to l.invariant.2 (omega arith)
