@@ -19,7 +19,7 @@ ghost use Rattle.sha256.specs.Hash.{hash, is_hash};
 use refusal::{Check, Refusal};
 
 // The eight working variables, and a hash value's eight words.
-#[derive(Drop)]
+#[derive(Clone, Copy)]
 pub struct State {
     pub a: u32,
     pub b: u32,

@@ -2,11 +2,7 @@
 use Rattle.std.proofs.Common.{ℕ, ◌/◌, ap, arith}
 use lib.Bits.{bit_xor}
 use Rattle.sha256.proofs.Rotation.{nested}
-use Rattle.sha256.proofs.word.small_sigma0.Statement.{statement}
-use Rattle.sha256.proofs.word.small_sigma0.Tie as tie
+use Rattle.sha256.proofs.word.small_sigma0.Goals as goal
 
-returns : tie.Need-returns
+pub returns : goal.returns
 returns c = ap (λ (r : ℕ). bit_xor r (c.args.x / 8)) (nested 7 11 c.args.x (omega arith) (omega arith))
-
-pub small-sigma0-spec : {M : Type 1} → statement M
-small-sigma0-spec = tie.close (tie.spec returns)

@@ -1,11 +1,7 @@
 -- Rotated by 11 and by 20, both then by 2, the word is rotated by 13 and by 22; joined before, by 2. There is no loop.
 use Rattle.std.proofs.Common.{arith}
 use Rattle.sha256.proofs.Rotation.{nested_both}
-use Rattle.sha256.proofs.word.big_sigma0.Statement.{statement}
-use Rattle.sha256.proofs.word.big_sigma0.Tie as tie
+use Rattle.sha256.proofs.word.big_sigma0.Goals as goal
 
-returns : tie.Need-returns
+pub returns : goal.returns
 returns c = nested_both 2 11 20 c.args.x (omega arith) (omega arith) (omega arith)
-
-pub big-sigma0-spec : {M : Type 1} → statement M
-big-sigma0-spec = tie.close (tie.spec returns)

@@ -1,11 +1,7 @@
 -- Rotated by 14, then 5, then 6, the word is rotated by 25; joined on the way, by 11 and by 6. There is no loop.
 use Rattle.std.proofs.Common.{arith}
 use Rattle.sha256.proofs.Rotation.{nested_twice}
-use Rattle.sha256.proofs.word.big_sigma1.Statement.{statement}
-use Rattle.sha256.proofs.word.big_sigma1.Tie as tie
+use Rattle.sha256.proofs.word.big_sigma1.Goals as goal
 
-returns : tie.Need-returns
+pub returns : goal.returns
 returns c = nested_twice 6 5 14 c.args.x (omega arith) (omega arith)
-
-pub big-sigma1-spec : {M : Type 1} → statement M
-big-sigma1-spec = tie.close (tie.spec returns)

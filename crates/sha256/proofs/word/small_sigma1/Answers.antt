@@ -2,11 +2,7 @@
 use Rattle.std.proofs.Common.{ℕ, ◌/◌, ap, arith}
 use lib.Bits.{bit_xor}
 use Rattle.sha256.proofs.Rotation.{nested}
-use Rattle.sha256.proofs.word.small_sigma1.Statement.{statement}
-use Rattle.sha256.proofs.word.small_sigma1.Tie as tie
+use Rattle.sha256.proofs.word.small_sigma1.Goals as goal
 
-returns : tie.Need-returns
+pub returns : goal.returns
 returns c = ap (λ (r : ℕ). bit_xor r (c.args.x / 1024)) (nested 17 2 c.args.x (omega arith) (omega arith))
-
-pub small-sigma1-spec : {M : Type 1} → statement M
-small-sigma1-spec = tie.close (tie.spec returns)
