@@ -4,7 +4,7 @@ use Prim.Native.Nat.{ℕ}
 use mathlib.Core.Bool.{cond}
 use mathlib.Core.List.{List, [], ◌∷◌}
 use mathlib.Core.Logic.{inl, ⊎_elim}
-use mathlib.Core.Path.{◌≡◌, refl, sym, ◌∙◌}
+use mathlib.Core.Path.{◌≡◌, refl, sym, ap, ◌∙◌}
 use native.Mathlib.Omega.{arith}
 use lib.Dec.{eqb}
 use lib.ListN.{replicate}
@@ -49,7 +49,7 @@ module _ (N : ℕ) (t : Turn) (events : List Event) (pended before : ℕ → Lis
   unfolding file_from
   sent_leaves (refused n p q) v = so_far v
   sent_leaves (accepted s) v =
-      ⊎_elim (λ y. let h = rw y at (so_far v) in rw (y, h) (fate_leaves N t.user s t.sent_write (pended v))) (λ n. rw n (let h = rw n at (so_far v) in h)) (bool_cases (eqb t.user v))
+      ⊎_elim (λ y. let h = rw y at (so_far v) in rw y (ap (λ f. after_event N f (marks_sent t.user t.sent_write)) h ∙ fate_leaves N t.user s t.sent_write (pended v))) (λ n. rw n (let h = rw n at (so_far v) in h)) (bool_cases (eqb t.user v))
 
 pub turns_run : TurnsRun
 unfolding after start events_of file_from file_after
