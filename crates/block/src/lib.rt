@@ -7,8 +7,8 @@ pub mod fill;
 
 ghost use Rattle.std.specs.Prelude.{◌≡◌, true, ◌-◌, eqb};
 ghost use Rattle.search.specs.Search.{find};
-ghost use Rattle.itable.specs.Block.{kind as kind_of, used as usedOf, number as number_of, value as value_of, child_bound, to_child};
-ghost use Rattle.itable.specs.Block.{kind_due, used_due, ascending as ascendingOf, first_due, below_bound, well_formed};
+ghost use Rattle.itable.specs.Block.{kind as kind_of, used as used_of, number as number_of, value as value_of, child_bound, to_child};
+ghost use Rattle.itable.specs.Block.{kind_due, used_due, ascending as ascending_of, first_due, below_bound, well_formed};
 ghost use Rattle.itable.specs.Lookup.{last_at_most};
 
 use itable::Link;
@@ -44,7 +44,7 @@ pub fn kind(b: &[u8]) -> u8
 
 // The number of used slots.
 pub fn used(b: &[u8]) -> u8
-    ensures { result ≡ usedOf b.now }
+    ensures { result ≡ used_of b.now }
 {
     layout::byte_at(b, USED)
 }
@@ -129,7 +129,7 @@ fn used_due(due: u8, b: &[u8]) -> bool
 
 // Whether the numbers in the used slots strictly ascend.
 fn ascending(b: &[u8]) -> bool
-    ensures { result ≡ ascendingOf b.now }
+    ensures { result ≡ ascending_of b.now }
 {
     let used = used(b);
     let mut last = number(b, 0);
@@ -158,7 +158,7 @@ fn first_due(due: u8, first: u64, b: &[u8]) -> bool
 // Whether the numbers in the used slots are below the bound; 0 stands for none. They ascend, so the last
 // of them tells.
 fn below_bound(bound: u64, b: &[u8]) -> bool
-    requires { ascendingOf b.now ≡ true }
+    requires { ascending_of b.now ≡ true }
     ensures { result ≡ below_bound bound b.now }
 {
     if bound == 0 {
@@ -195,7 +195,7 @@ pub fn well_formed(link: Link, b: &[u8]) -> bool
 
 // The first used slot whose number is i; the number of used slots if there is none.
 pub fn slot_of(b: &[u8], i: u64) -> u8
-    ensures { result ≡ find (λ j. eqb (number_of b.now j) i) 0 (usedOf b.now) }
+    ensures { result ≡ find (λ j. eqb (number_of b.now j) i) 0 (used_of b.now) }
 {
     let used = used(b);
     let mut j = 0;
@@ -210,7 +210,7 @@ pub fn slot_of(b: &[u8], i: u64) -> u8
 
 // One more than the last used slot whose number is at most i; 0 if there is none.
 pub fn last_at_most(b: &[u8], i: u64) -> u8
-    ensures { result ≡ last_at_most (number_of b.now) i (usedOf b.now) }
+    ensures { result ≡ last_at_most (number_of b.now) i (used_of b.now) }
 {
     let mut n = used(b);
     while 0 < n {

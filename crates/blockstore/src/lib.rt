@@ -13,8 +13,8 @@ ghost use Rattle.refusal.specs.Order.{tried};
 ghost use Rattle.refusal.specs.Refusal.{said, given};
 ghost use Rattle.refusal.specs.Result.{Gives, left};
 ghost use Rattle.store.specs.Place.{store_size};
-ghost use Rattle.store.specs.Calls.{make as makeOf, store as store_of, retrieve as retrieveOf, retrieve_into};
-ghost use Rattle.store.specs.Calls.{unreferenced, unreference as unreferenceOf, after_unreference};
+ghost use Rattle.store.specs.Calls.{make as make_of, store as store_of, retrieve as retrieve_of, retrieve_into};
+ghost use Rattle.store.specs.Calls.{unreferenced, unreference as unreference_of, after_unreference};
 ghost use Rattle.blockstore.specs.Internal.Stages.{admit_steps, counted_once, filled_free};
 
 use refusal::{Check, Given, Refusal};
@@ -36,7 +36,7 @@ const LAST: u16 = 65535;
 
 // Makes an empty store of 526,464 lent bytes: all of them zero.
 pub fn make(store: &mut [u8]) -> Check
-    ensures { Gives (makeOf store.old) store.old store.new result }
+    ensures { Gives (make_of store.old) store.old store.new result }
 {
     if store.len() != SIZE {
         return Check::Refused(Refusal::Length(0));
@@ -120,7 +120,7 @@ pub fn store(store: &mut [u8], user: u8, block: &[u8]) -> Check
 // Copies the block of a hash to the front of `out`, and keeps the bytes after it. Gives its length.
 // The store is only read.
 pub fn retrieve(store: &[u8], hash: &[u8], out: &mut [u8]) -> Given
-    ensures answers { given result ≡ and_then (retrieveOf store.now hash.now (length out.old))
+    ensures answers { given result ≡ and_then (retrieve_of store.now hash.now (length out.old))
         (λ b. accepted (length b)) }
     ensures leaves { out.new ≡ left (retrieve_into store.now hash.now out.old) out.old }
 {
@@ -157,7 +157,7 @@ fn uncount_one(store: &mut [u8], p: usize, user: usize) -> usize
 // Takes one from a user's count of a hash; where it is 0, nothing is done. Gives how many it took. All
 // other bytes of the store stay, also those of a place that nobody counts any more.
 pub fn unreference(store: &mut [u8], user: u8, hash: &[u8]) -> Given
-    ensures answers { given result ≡ and_then (unreferenceOf store.old user hash.now) (λ t. accepted t.took) }
+    ensures answers { given result ≡ and_then (unreference_of store.old user hash.now) (λ t. accepted t.took) }
     ensures leaves { store.new ≡ left (after_unreference store.old user hash.now) store.old }
 {
     let c = admit(store, user, hash.len() == HASH);

@@ -3,7 +3,7 @@
 #![tactic(auto)]
 
 ghost use Rattle.std.specs.Prelude.{◌≡◌, ◌≤◌, length};
-ghost use Rattle.cache.specs.Choose.{fits as fits_of, choose as chooseOf, handed, handed_of};
+ghost use Rattle.cache.specs.Choose.{fits as fits_of, choose as choose_of, handed, handed_of};
 ghost use Rattle.cache.specs.Choice.{answer_of};
 ghost use Rattle.cache.specs.HandedBack.{HandedBack};
 
@@ -36,7 +36,7 @@ fn fits(wanted: &[u8], part: &[u8]) -> bool
 // Says which of two parts is the block of the wanted hash. The cached part is hashed only where the
 // reply does not fit.
 pub fn choose(wanted: &[u8], reply: &[u8], cached: &[u8]) -> Choice
-    ensures { answer_of result ≡ chooseOf wanted.now reply.now cached.now }
+    ensures { answer_of result ≡ choose_of wanted.now reply.now cached.now }
 {
     if wanted.len() != HASH {
         return Choice::Refused(Refusal::Length(0));
@@ -73,7 +73,7 @@ pub fn part<'a>(c: Choice, reply: &'a [u8], cached: &'a [u8]) -> &'a [u8]
 // is handed back calls the two.
 pub fn block<'a>(wanted: &[u8], reply: &'a [u8], cached: &'a [u8]) -> &'a [u8]
     ensures bytes { result.now ≡ handed_of wanted.now reply.now cached.now }
-    ensures place { HandedBack (chooseOf wanted.now reply.now cached.now)
+    ensures place { HandedBack (choose_of wanted.now reply.now cached.now)
         reply.entry cached.entry result }
 {
     part(choose(wanted, reply, cached), reply, cached)

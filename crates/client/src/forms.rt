@@ -5,7 +5,7 @@ ghost use Rattle.search.specs.Search.{find};
 ghost use Rattle.refusal.specs.Order.{tried};
 ghost use Rattle.refusal.specs.Refusal.{said};
 ghost use Rattle.protocol.specs.Version.{size};
-ghost use Rattle.protocol.specs.List.{records as recordsOf, well_placed};
+ghost use Rattle.protocol.specs.List.{records as records_of, well_placed};
 ghost use Rattle.protocol.specs.Check.{remembers, form_steps};
 
 use crate::records;
@@ -56,7 +56,7 @@ fn first_unmarked(marks: &[u8]) -> usize
 }
 
 pub(crate) fn forms(users: u8, list: &[u8], marks: &[u8]) -> Check
-    requires { length marks.now ≡ recordsOf list.now }
+    requires { length marks.now ≡ records_of list.now }
     ensures { (user : ℕ) (held : List ℕ) → remembers users user held ≡ true →
         said result ≡ tried (form_steps users user held list.now marks.now) }
 {

@@ -1,7 +1,7 @@
 // The counts of the client's next version structure.
 ghost use Rattle.std.specs.Prelude.{◌≡◌, ℕ, ◌+◌, ◌*◌, ◌<◌, length};
 ghost use Rattle.protocol.specs.Version.{size, owner, count};
-ghost use Rattle.protocol.specs.List.{records as recordsOf, record_at};
+ghost use Rattle.protocol.specs.List.{records as records_of, record_at};
 ghost use Rattle.protocol.specs.Check.{last_count, next_counts};
 
 use crate::records;
@@ -12,8 +12,8 @@ use version::SIZE;
 pub(crate) fn counts(user: u8, held: &[u8], list: &[u8]) -> [u32; 16]
     requires user_bound { user < 16 }
     requires user_bound_2 { count held.now user < last_count }
-    requires list_value { size * recordsOf list.now ≡ length list.now }
-    requires by_index { (i : ℕ) → i < recordsOf list.now → owner (record_at list.now i) < 16 }
+    requires list_value { size * records_of list.now ≡ length list.now }
+    requires by_index { (i : ℕ) → i < records_of list.now → owner (record_at list.now i) < 16 }
     ensures { result ≡ next_counts user held.now list.now }
 {
     let mut counts = [0u32; 16];

@@ -5,8 +5,8 @@ ghost use Rattle.search.specs.Search.{find};
 ghost use Rattle.refusal.specs.Order.{tried};
 ghost use Rattle.refusal.specs.Refusal.{said};
 ghost use Rattle.protocol.specs.Version.{size, owner, count, counts_before, counts_strictly_before};
-ghost use Rattle.protocol.specs.List.{records as recordsOf, record_at, entry as entry_of};
-ghost use Rattle.protocol.specs.Check.{pair_step, current as currentOf};
+ghost use Rattle.protocol.specs.List.{records as records_of, record_at, entry as entry_of};
+ghost use Rattle.protocol.specs.Check.{pair_step, current as current_of};
 ghost use Rattle.version.specs.Version.{fields, count_in};
 ghost use Rattle.client.specs.Internal.Stages.{none, is_before, goes_on, Orders};
 
@@ -31,8 +31,8 @@ fn entry(user: u8, list: &[u8], n: usize) -> usize
 
 // Whether the list's record of the user and the structure that is held are the same bytes, or neither exists.
 fn current(user: u8, held: &[u8], list: &[u8]) -> bool
-    requires { size * recordsOf list.now ≡ length list.now }
-    ensures { result ≡ currentOf user held.now list.now }
+    requires { size * records_of list.now ≡ length list.now }
+    ensures { result ≡ current_of user held.now list.now }
 {
     let n = list.len() / SIZE;
     let i = entry(user, list, n);
@@ -45,7 +45,7 @@ fn current(user: u8, held: &[u8], list: &[u8]) -> bool
 
 // How many operations of the user the list's record of the user counts; none where there is no record.
 fn listed_count(user: u8, list: &[u8]) -> u32
-    requires { size * recordsOf list.now ≡ length list.now }
+    requires { size * records_of list.now ≡ length list.now }
     ensures { result ≡ count (entry_of list.now user) user }
 {
     let n = list.len() / SIZE;
@@ -58,7 +58,7 @@ fn listed_count(user: u8, list: &[u8]) -> u32
 
 // Whether what is held, with this own count, is pending and the list shows the structure before it.
 fn is_before(user: u8, own: u32, pending: bool, list: &[u8]) -> bool
-    requires { size * recordsOf list.now ≡ length list.now }
+    requires { size * records_of list.now ≡ length list.now }
     ensures { result ≡ is_before user own pending list.now }
 {
     if !pending {
@@ -113,8 +113,8 @@ fn strictly_before(x: [u32; 16], y: [u32; 16]) -> bool
 
 // Whether all pairs are ordered: the records with each other, and each with a structure of the counts `next`.
 fn pairs(list: &[u8], next: [u32; 16]) -> Check
-    requires list_value { size * recordsOf list.now ≡ length list.now }
-    requires list_bound { recordsOf list.now ≤ 16 }
+    requires list_value { size * records_of list.now ≡ length list.now }
+    requires list_bound { records_of list.now ≤ 16 }
     ensures { (new : ℕ → ℕ) → next ≡ values new 0 16 → said result ≡ tried (pair_step list.now new ∷ []) }
 {
     let n = list.len() / SIZE;
@@ -153,9 +153,9 @@ pub(crate) struct Ordered {
 
 pub(crate) fn order(user: u8, held: &[u8], pending: bool, list: &[u8]) -> Ordered
     requires user_bound { user < 16 }
-    requires list_value { size * recordsOf list.now ≡ length list.now }
-    requires list_bound { recordsOf list.now ≤ 16 }
-    requires by_index { (i : ℕ) → i < recordsOf list.now → owner (record_at list.now i) < 16 }
+    requires list_value { size * records_of list.now ≡ length list.now }
+    requires list_bound { records_of list.now ≤ 16 }
+    requires by_index { (i : ℕ) → i < records_of list.now → owner (record_at list.now i) < 16 }
     ensures { Orders (goes_on user held.now pending list.now) held.now result.verdict result.counts }
 {
     let listed = current(user, held, list);

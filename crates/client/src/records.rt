@@ -1,13 +1,13 @@
 // Record i of a list: its owner and its own count.
 ghost use Rattle.std.specs.Prelude.{◌≡◌, ◌+◌, ◌*◌, ◌≤◌, length};
-ghost use Rattle.protocol.specs.Version.{size, owner as ownerOf, own};
+ghost use Rattle.protocol.specs.Version.{size, owner as owner_of, own};
 ghost use Rattle.protocol.specs.List.{record_at};
 
 use version::SIZE;
 
 pub(crate) fn owner(list: &[u8], i: usize) -> u8
     requires { size * i + size ≤ length list.now }
-    ensures { result ≡ ownerOf (record_at list.now i) }
+    ensures { result ≡ owner_of (record_at list.now i) }
 {
     version::owner(&list[SIZE * i..SIZE * i + SIZE])
 }

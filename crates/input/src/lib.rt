@@ -8,8 +8,8 @@
 
 ghost use Rattle.std.specs.Prelude.{◌≡◌, true, ◌⊎◌, ◌*◌, ◌-◌, ◌≤◌, length, take, drop};
 ghost use Rattle.refusal.specs.Answer.{accepted, and_then};
-ghost use Rattle.refusal.specs.Refusal.{checked as checkedOf};
-ghost use Rattle.input.specs.Form.{users as usersOf, user as user_of, handle as handle_of, formed as formedOf, behind_memory, first_marks, first_records};
+ghost use Rattle.refusal.specs.Refusal.{checked as checked_of};
+ghost use Rattle.input.specs.Form.{users as users_of, user as user_of, handle as handle_of, formed as formed_of, behind_memory, first_marks, first_records};
 ghost use Rattle.input.specs.Report.{Judgement, sixteen, answered, judgement, Reports};
 
 use client::Verdict;
@@ -59,7 +59,7 @@ fn behind_memory(flag: u8) -> usize
 
 // Whether the input is of the stated form. A length of at most 1,717 leaves room for sixteen records at most.
 fn formed(input: &[u8]) -> bool
-    ensures { result ≡ formedOf input.now }
+    ensures { result ≡ formed_of input.now }
 {
     if input.len() < MEMORY {
         return false;
@@ -103,7 +103,7 @@ fn take_apart(sent: &[u8], n: usize, marks: &mut [u8], list: &mut [u8])
 
 // The report of a call's answer, given what the making step left in the buffer of the new structure.
 fn tell(users: u8, user: u8, answer: Check, new: &[u8]) -> Report
-    ensures { Reports (Judgement.answer (and_then (checkedOf new.now answer) (λ s. accepted (sixteen s)))) users user result }
+    ensures { Reports (Judgement.answer (and_then (checked_of new.now answer) (λ s. accepted (sixteen s)))) users user result }
 {
     match answer {
         Check::Passed => {
@@ -134,9 +134,9 @@ fn ask(input: &[u8], start: usize, list: &[u8], marks: &[u8]) -> Report
     requires start_in_bounds { start ≤ length input.now }
     requires fact { (start ≡ 35) ⊎ (start ≡ 133) }
     ensures { Reports
-        (answered (usersOf input.now) (user_of input.now) (take (start - 35) (drop 35 input.now))
+        (answered (users_of input.now) (user_of input.now) (take (start - 35) (drop 35 input.now))
         list.now marks.now (handle_of input.now))
-        (usersOf input.now) (user_of input.now) result }
+        (users_of input.now) (user_of input.now) result }
 {
     let users = input[0];
     let user = input[1];
@@ -157,8 +157,8 @@ fn ask(input: &[u8], start: usize, list: &[u8], marks: &[u8]) -> Report
 
 // The report on an input of the stated form.
 fn checked(input: &[u8]) -> Report
-    requires { formedOf input.now ≡ true }
-    ensures { Reports (judgement input.now) (usersOf input.now) (user_of input.now) result }
+    requires { formed_of input.now ≡ true }
+    ensures { Reports (judgement input.now) (users_of input.now) (user_of input.now) result }
 {
     let start = behind_memory(input[FLAG]);
     let n = (input.len() - start) / MARKED;
@@ -173,7 +173,7 @@ fn checked(input: &[u8]) -> Report
 //
 // Any bytes of any length are taken, and nothing is kept.
 pub fn judge(input: &[u8]) -> Report
-    ensures { Reports (judgement input.now) (usersOf input.now) (user_of input.now) result }
+    ensures { Reports (judgement input.now) (users_of input.now) (user_of input.now) result }
 {
     if formed(input) {
         return checked(input);

@@ -5,7 +5,7 @@
 ghost use Rattle.std.specs.Prelude.{◌≡◌, ◌*◌, ◌≤◌, length};
 ghost use Rattle.refusal.specs.Refusal.{refusal};
 ghost use Rattle.itable.specs.Block.{size, kind, to_root};
-ghost use Rattle.itable.specs.Lookup.{consult, lookup as lookupOf};
+ghost use Rattle.itable.specs.Lookup.{consult, lookup as lookup_of};
 ghost use Rattle.lookup.specs.Looked.{Looks};
 ghost use Rattle.lookup.specs.Internal.Step.{ending, Searched, Consulted};
 
@@ -162,7 +162,7 @@ fn walk(root: Link, number: u64, path: &[u8], n: usize) -> Looked
 // Looks an i-number up: the handle of its file, or that it is absent. `path` is one to three whole
 // blocks, root first; `handle` is the root's hash. Nothing is written.
 pub fn lookup(handle: &[u8], number: u64, path: &[u8]) -> Looked
-    ensures { Looks (lookupOf handle.now number path.now) result }
+    ensures { Looks (lookup_of handle.now number path.now) result }
 {
     if handle.len() != 32 {
         return refused(Refusal::Length(0));

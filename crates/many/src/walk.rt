@@ -3,7 +3,7 @@ ghost use Rattle.std.specs.Prelude.{◌≡◌, ◌+◌, ◌-◌, ◌*◌, ◌≤
 ghost use Rattle.layout.specs.Bytes.{part};
 ghost use Rattle.sha256.specs.Hash.{is_hash};
 ghost use Rattle.itable.specs.Block.{size};
-ghost use Rattle.itable.specs.Lookup.{consult as consultOf, lookup};
+ghost use Rattle.itable.specs.Lookup.{consult as consult_of, lookup};
 ghost use Rattle.itable.specs.Internal.Many.{entry_at, leads_at};
 ghost use Rattle.many.specs.Internal.Known.{Knows, AllKnown};
 ghost use Rattle.many.specs.Internal.Walk.{path_from, Consulted, Says};
@@ -77,7 +77,7 @@ fn consult(link: Link, b: &[u8], number: u64, left: usize, d: usize) -> Step
 // first of them.
 fn walk(root: Link, number: u64, paths: &[u8], first: usize, n: usize, before: [Known; 3]) -> Asked
     requires { (size * (first + n) ≤ length paths.now) × (n ≤ 3) × AllKnown paths.now before }
-    ensures { Says (consultOf (path_from paths.now first n) number n 0 root)
+    ensures { Says (consult_of (path_from paths.now first n) number n 0 root)
         (entry_at (part size paths.now (first + n - 1)) number) paths.now result }
 {
     let mut link = root;

@@ -12,8 +12,8 @@ ghost use Rattle.refusal.specs.Order.{tried};
 ghost use Rattle.refusal.specs.Refusal.{said, given};
 ghost use Rattle.refusal.specs.Result.{Gives, left};
 ghost use Rattle.protocol.specs.Version.{size};
-ghost use Rattle.protocol.specs.MemoryFile.{file_size, state as state_of, held as held_of, formed as formedOf, own_formed};
-ghost use Rattle.protocol.specs.MemoryFile.{file_of, file_steps, over as overOf, back as backOf, back_into, sent as sentBy, pend as pendOf};
+ghost use Rattle.protocol.specs.MemoryFile.{file_size, state as state_of, held as held_of, formed as formed_of, own_formed};
+ghost use Rattle.protocol.specs.MemoryFile.{file_of, file_steps, over as over_of, back as back_of, back_into, sent as sent_by, pend as pend_of};
 
 use refusal::{Check, Given, Refusal};
 use version::SIZE;
@@ -58,7 +58,7 @@ fn own(users: u8, user: u8, x: &[u8]) -> bool
 // Whether this is a file of `user`, of `users` users: kind 7, and none with zeros behind it, or sent or pending
 // with a structure of the user's that is well formed. Its length is not asked: past its end stand zeros.
 pub fn formed(users: u8, user: u8, file: &[u8]) -> bool
-    ensures { result ≡ formedOf users user file.now }
+    ensures { result ≡ formed_of users user file.now }
 {
     if layout::byte_at(file, KIND) != 7 {
         return false;
@@ -150,7 +150,7 @@ fn judge(users: u8, user: u8, long: bool, good: bool) -> Check
 // (100 bytes): none, or sent. The caller owns every buffer. Refused, with the first refusal of its order: no
 // byte of a buffer is changed. Any lengths and any bytes are taken. Both hold for the calls below too.
 pub fn over(users: u8, user: u8, old: &[u8], out: &mut [u8]) -> Check
-    ensures { Gives (overOf users user old.now (length out.old)) out.old out.new result }
+    ensures { Gives (over_of users user old.now (length out.old)) out.old out.new result }
 {
     let long = both(version::none_or_one(old.len()), out.len() == FILE);
     let c = judge(users, user, long, version::remembered(users, user, old));
@@ -165,7 +165,7 @@ pub fn over(users: u8, user: u8, old: &[u8], out: &mut [u8]) -> Check
 // Moves a file back into what was remembered before: writes its structure to `out` (98 bytes), or nothing in
 // state none, and gives how many bytes it wrote. Refused while the file is pending.
 pub fn back(users: u8, user: u8, file: &[u8], out: &mut [u8]) -> Given
-    ensures answers { given result ≡ and_then (backOf users user file.now (length out.old))
+    ensures answers { given result ≡ and_then (back_of users user file.now (length out.old))
         (λ old. accepted (length old)) }
     ensures leaves { out.new ≡ left (back_into users user file.now out.old) out.old }
 {
@@ -183,7 +183,7 @@ pub fn back(users: u8, user: u8, file: &[u8], out: &mut [u8]) -> Given
 
 // Marks a file as sent where it is pending: its state alone is changed, to 0. Any other file stays as it is.
 pub fn sent(users: u8, user: u8, file: &mut [u8]) -> Check
-    ensures { Gives (sentBy users user file.old) file.old file.new result }
+    ensures { Gives (sent_by users user file.old) file.old file.new result }
 {
     let c = judge(users, user, file.len() == FILE, formed(users, user, file));
     let Check::Passed = c else {
@@ -198,7 +198,7 @@ pub fn sent(users: u8, user: u8, file: &mut [u8]) -> Check
 
 // Writes the pending file (100 bytes) of a structure (98 bytes) that the user has made.
 pub fn pend(users: u8, user: u8, x: &[u8], out: &mut [u8]) -> Check
-    ensures { Gives (pendOf users user x.now (length out.old)) out.old out.new result }
+    ensures { Gives (pend_of users user x.now (length out.old)) out.old out.new result }
 {
     let long = both(x.len() == SIZE, out.len() == FILE);
     let c = judge(users, user, long, own(users, user, x));

@@ -11,7 +11,7 @@ use borrow.Author.Tests.{eq-eqb, ne_eqb}
 use Rattle.protocol.specs.declared.Server.{Server}
 use Rattle.protocol.specs.Version.{owner, count}
 use Rattle.protocol.specs.Server.{held, held_own, replaced}
-use Rattle.protocol.specs.MemoryFile.{file_size, held as heldIn}
+use Rattle.protocol.specs.MemoryFile.{file_size, held as held_in}
 use Rattle.protocol.specs.Meaning.{AtOrBefore}
 use Rattle.protocol.specs.MemoryMeaning.{Formed}
 use Rattle.protocol.specs.Steady.{Kept, Steady}
@@ -68,7 +68,7 @@ module _ {N : ℕ} {s : Server} {file : ℕ → List ℕ} {u : ℕ} {handle : Li
 
   -- With any file g of the user that holds the new structure.
   pub steady_next :
-      (g : List ℕ) → length g ≡ file_size → Formed N u g → heldIn g ≡ made_next r →
+      (g : List ℕ) → length g ≡ file_size → Formed N u g → held_in g ≡ made_next r →
       Steady N (replaced s (made_next r)) (λ v. cond (eqb u v) g (file v))
   unfolding replaced
   steady_next g long formed holds =
@@ -80,7 +80,7 @@ module _ {N : ℕ} {s : Server} {file : ℕ → List ℕ} {u : ℕ} {handle : Li
             (λ v x. v < N → (length (cond (eqb u v) g (file v)) ≡ file_size) × Formed N v (cond (eqb u v) g (file v)))
             (λ l. rw (eq-eqb u u refl) (long, formed)) (λ v n l. rw (ne_eqb u v (λ e. n (sym e))) (r.steady.filed v l));
         remembered =
-            now_or_still (λ v x. v < N → heldIn (cond (eqb u v) g (file v)) ≡ x) (λ l. rw (eq-eqb u u refl) holds)
+            now_or_still (λ v x. v < N → held_in (cond (eqb u v) g (file v)) ≡ x) (λ l. rw (eq-eqb u u refl) holds)
             (λ v n l. rw (ne_eqb u v (λ e. n (sym e))) (r.steady.remembered v l));
         kept = now_or_still (λ v x. v < 16 → Kept N v x) (λ l. inr (next_proper r)) (λ v n l. r.steady.kept v l);
         counted = λ v w. counted_now w v;

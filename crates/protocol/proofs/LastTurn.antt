@@ -15,7 +15,7 @@ use Rattle.protocol.specs.declared.Server.{Server}
 use Rattle.protocol.specs.Version.{size, count, structure}
 use Rattle.protocol.specs.Check.{last_count}
 use Rattle.protocol.specs.Server.{empty, held, held_own, all_held, replaced}
-use Rattle.protocol.specs.MemoryFile.{file_size, held as heldIn}
+use Rattle.protocol.specs.MemoryFile.{file_size, held as held_in}
 use Rattle.protocol.specs.History.{whole}
 use Rattle.protocol.specs.Meaning.{AtOrBefore}
 use Rattle.protocol.specs.MemoryMeaning.{Formed}
@@ -85,7 +85,7 @@ last_steady =
           (moved_formed 2 0 last_own (inr last_length) (inr (last_proper.formed, last_proper.owned)))
           (λ v l n. rw (ne_eqb v 0 n) (moved_formed 2 v [] (inl refl) (inl refl))) v (omega arith);
       remembered = λ v l.
-          of_held (λ v x. heldIn (last_world.file v) ≡ x) (of_holds last_own) (λ v l n. rw (ne_eqb v 0 n) (of_holds [])) v (omega arith);
+          of_held (λ v x. held_in (last_world.file v) ≡ x) (of_holds last_own) (λ v l n. rw (ne_eqb v 0 n) (of_holds [])) v (omega arith);
       kept = of_held (Kept 2) (inr last_proper) (λ v l n. inl refl);
       counted = λ v w l m.
           of_held (λ w y. count (held s v) w ≤ count y w)

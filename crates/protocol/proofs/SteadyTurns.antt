@@ -18,7 +18,7 @@ use Rattle.protocol.specs.declared.Server.{Server}
 use Rattle.protocol.specs.Version.{size, count}
 use Rattle.protocol.specs.List.{records}
 use Rattle.protocol.specs.Check.{last_count, current}
-use Rattle.protocol.specs.MemoryFile.{file_size, held as heldIn, none, formed, pending_of, sent_of, sent, sends_again, again}
+use Rattle.protocol.specs.MemoryFile.{file_size, held as held_in, none, formed, pending_of, sent_of, sent, sends_again, again}
 use Rattle.protocol.specs.Server.{empty, held, held_own, all_held, list_steps, listed, listing, replaced}
 use Rattle.protocol.specs.History.{called, Fate, whole, absent}
 use Rattle.protocol.specs.Meaning.{Users}
@@ -48,16 +48,16 @@ counts_read (refused n p q) = refl
 record Filed (N u : ℕ) (x g : List ℕ) : Type 0 where
   long : length g ≡ file_size
   formed : Formed N u g
-  holds : heldIn g ≡ x
+  holds : held_in g ≡ x
 
 module _ (N u : ℕ) (x : List ℕ) where
   pending_filed : Proper N u x → Filed N u x (pending_of x)
-  unfolding heldIn
+  unfolding held_in
   pending_filed p =
       record { long = omega (arith, p.whole); formed = (refl, is_pending refl (p.formed, p.owned)); holds = refl }
 
   sent_filed : Users N u → Proper N u x → Filed N u x (left (sent N u (pending_of x)) (pending_of x))
-  unfolding heldIn sent_of
+  unfolding held_in sent_of
   sent_filed users p =
       let f = pending_filed p in
       rw (((sent_means N u (pending_of x)).0.0 (sent_of (pending_of x))).1 ((users, f.long, f.formed, tt), refl))

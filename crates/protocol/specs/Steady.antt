@@ -3,7 +3,7 @@ use Rattle.std.specs.Prelude.{ℕ, ◌≤◌, ◌<◌, List, [], ◌⊎◌, ◌�
 use Rattle.protocol.specs.declared.Server.{Server}
 use Rattle.protocol.specs.Version.{size, owner, count}
 use Rattle.protocol.specs.Server.{held, held_own}
-use Rattle.protocol.specs.MemoryFile.{file_size, held as heldIn}
+use Rattle.protocol.specs.MemoryFile.{file_size, held as held_in}
 use Rattle.protocol.specs.Meaning.{WellFormed, AtOrBefore}
 use Rattle.protocol.specs.MemoryMeaning.{Formed}
 use Rattle.protocol.specs.Turns.{Turn, after, Fair}
@@ -24,7 +24,7 @@ pub record Steady (N : ℕ) (s : Server) (file : ℕ → List ℕ) : Type 0 wher
   pub users : s.users ≡ N
   pub long : length s.records ≡ 1568
   pub filed : (v : ℕ) → v < N → (length (file v) ≡ file_size) × Formed N v (file v)
-  pub remembered : (v : ℕ) → v < N → heldIn (file v) ≡ held s v
+  pub remembered : (v : ℕ) → v < N → held_in (file v) ≡ held s v
   pub kept : (v : ℕ) → v < 16 → Kept N v (held s v)
   pub counted : (v w : ℕ) → v < 16 → w < 16 → count (held s v) w ≤ held_own s w
   pub ordered : (v w : ℕ) → v < 16 → w < 16 → AtOrBefore (held s v) (held s w) ⊎ AtOrBefore (held s w) (held s v)

@@ -1,6 +1,6 @@
 // The lines of a report. Each is written after the one before it.
 ghost use Rattle.std.specs.Prelude.{ℕ, ◌+◌, ◌≤◌, length};
-ghost use Rattle.refusal.specs.Refusal.{refusal as refusalOf};
+ghost use Rattle.refusal.specs.Refusal.{refusal as refusal_of};
 ghost use Rattle.input.specs.Report.{told};
 ghost use Rattle.report.specs.Printed.{desk_line, answer_line, accept_line, lines};
 ghost use Rattle.report.specs.Internal.Text.{Appended};
@@ -36,7 +36,7 @@ fn accept(users: u8, counts: [u32; 16], out: &mut [u8], at: usize) -> usize
 // The second line where it refuses, `refuse`, the number and both positions.
 fn refuse(refusal: Refusal, out: &mut [u8], at: usize) -> usize
     requires { at + 70 ≤ length out.old }
-    ensures by_index { (N : ℕ) → Appended out.old at (answer_line N (refusalOf refusal)) out.new result }
+    ensures by_index { (N : ℕ) → Appended out.old at (answer_line N (refusal_of refusal)) out.new result }
     ensures upper_bound { result ≤ at + 70 }
 {
     let told = refusal::tell(refusal);

@@ -4,8 +4,8 @@ ghost use Rattle.search.specs.Search.{find};
 ghost use Rattle.refusal.specs.Order.{tried};
 ghost use Rattle.refusal.specs.Refusal.{said};
 ghost use Rattle.layout.specs.Bytes.{part};
-ghost use Rattle.protocol.specs.Version.{size, owner as ownerOf, counts_strictly_before};
-ghost use Rattle.protocol.specs.Server.{make_steps, follows as followsOf, commit_steps};
+ghost use Rattle.protocol.specs.Version.{size, owner as owner_of, counts_strictly_before};
+ghost use Rattle.protocol.specs.Server.{make_steps, follows as follows_of, commit_steps};
 ghost use Rattle.version.specs.Version.{fields, count_in};
 
 use crate::held;
@@ -46,7 +46,7 @@ fn in_order(own: u32, records: &[u8], v: usize, new: &[u32; 16]) -> bool
 // Test 7 at user v, of a new structure of this owner with these counts.
 fn follows(records: &[u8], owner: usize, new: &[u32; 16], v: usize) -> bool
     requires { (length records.now ≡ 1568) × (v < 16) }
-    ensures { (users : ℕ) (x : List ℕ) → owner ≡ ownerOf x → new.now ≡ (fields x).counts → result ≡ followsOf
+    ensures { (users : ℕ) (x : List ℕ) → owner ≡ owner_of x → new.now ≡ (fields x).counts → result ≡ follows_of
         (record { users = users; records = records.now }) x v }
 {
     let own = held::own_count(records, v);
@@ -62,8 +62,8 @@ fn follows(records: &[u8], owner: usize, new: &[u32; 16], v: usize) -> bool
 // The lowest user at whom test 7 fails; 16 if it fails at none.
 fn first_apart(records: &[u8], owner: usize, new: &[u32; 16]) -> usize
     requires { length records.now ≡ 1568 }
-    ensures { (users : ℕ) (x : List ℕ) → owner ≡ ownerOf x → new.now ≡ (fields x).counts → result ≡ find
-        (λ v. not (followsOf (record { users = users; records = records.now }) x v)) 0 16 }
+    ensures { (users : ℕ) (x : List ℕ) → owner ≡ owner_of x → new.now ≡ (fields x).counts → result ≡ find
+        (λ v. not (follows_of (record { users = users; records = records.now }) x v)) 0 16 }
 {
     let mut v = 0;
     while v < 16 {

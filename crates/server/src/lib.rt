@@ -15,7 +15,7 @@ mod listing;
 ghost use Rattle.std.specs.Prelude.{◌≡◌, ◌+◌, ◌*◌, ◌<◌, ◌++◌, length, take, drop};
 ghost use Rattle.refusal.specs.Result.{Gives, left};
 ghost use Rattle.protocol.specs.Version.{size};
-ghost use Rattle.protocol.specs.Server.{empty as emptyOf, make as makeOf, listed, listing as listingOf, commit as commitOf};
+ghost use Rattle.protocol.specs.Server.{empty as empty_of, make as make_of, listed, listing as listing_of, commit as commit_of};
 ghost use Rattle.server.specs.Listed.{listed_as};
 ghost use Rattle.server.specs.Commit.{commit_into};
 
@@ -41,7 +41,7 @@ pub struct Committed {
 }
 
 fn empty(users: u8) -> Server
-    ensures { result ≡ emptyOf users }
+    ensures { result ≡ empty_of users }
 {
     let records = [0u8; RECORDS];
     Server { users, records }
@@ -50,7 +50,7 @@ fn empty(users: u8) -> Server
 // The empty list for this number of users. Where the number is refused, the empty list for one
 // user comes back.
 pub fn make(users: u8) -> Made
-    ensures { Gives (makeOf users) (emptyOf 1) result.server result.check }
+    ensures { Gives (make_of users) (empty_of 1) result.server result.check }
 {
     let check = checks::make_check(users);
     let Check::Passed = check else {
@@ -65,7 +65,7 @@ pub fn make(users: u8) -> Made
 // them. Refused where `out` is too short for them, and then all of `out` is kept.
 pub fn list(server: Server, out: &mut [u8]) -> Listed
     ensures answers { listed_as result ≡ listed server (length out.old) }
-    ensures leaves { out.new ≡ left (listingOf server out.old) out.old }
+    ensures leaves { out.new ≡ left (listing_of server out.old) out.old }
 {
     let n = listing::number(&server.records);
     if out.len() < SIZE * n {
@@ -104,7 +104,7 @@ pub fn commit_into(users: u8, records: &mut [u8], x: &[u8], mark: u8) -> Check
 // Takes the record in its owner's place, if it is signed by mark 1 and comes next after all that is
 // held. A refused commit gives the list back as it was.
 pub fn commit(server: Server, x: &[u8], mark: u8) -> Committed
-    ensures { Gives (commitOf server x.now mark) server result.server result.check }
+    ensures { Gives (commit_of server x.now mark) server result.server result.check }
 {
     let users = server.users;
     let mut records = server.records;

@@ -3,13 +3,13 @@ ghost use Rattle.std.specs.Prelude.{◌≡◌};
 ghost use Rattle.refusal.specs.Word.{answer_word};
 ghost use Rattle.itable.specs.Inode.{Span, block_check};
 ghost use Rattle.itable.specs.LargeInode.{large_check};
-ghost use Rattle.inode.specs.Spanned.{answer_of as spannedAs};
+ghost use Rattle.inode.specs.Spanned.{answer_of as spanned_as};
 
 use inode::Spanned;
 
 // A block check's answer as a number: the results are the block's offset in the file and its length.
 fn spanned_word(s: Spanned) -> u64
-    ensures { result ≡ answer_word (λ (a : Span). a.offset) (λ a. a.size) (spannedAs s) }
+    ensures { result ≡ answer_word (λ (a : Span). a.offset) (λ a. a.size) (spanned_as s) }
 {
     match s {
         Spanned::Span(offset, size) => refusal::word(0, offset, size),

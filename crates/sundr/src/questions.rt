@@ -2,7 +2,7 @@
 ghost use Rattle.std.specs.Prelude.{List, ◌≡◌, ℕ, length};
 ghost use Rattle.refusal.specs.Result.{left};
 ghost use Rattle.refusal.specs.Word.{plain_word};
-ghost use Rattle.itable.specs.Many.{many as manyOf};
+ghost use Rattle.itable.specs.Many.{many as many_of};
 ghost use Rattle.many.specs.Outcome.{answer_of};
 
 use many::Outcome;
@@ -31,9 +31,9 @@ pub extern "C" fn sundr_lookup_many(
     paths: &[u8],
     out: &mut [u8],
 ) -> u64
-    ensures answer { result ≡ plain_word (manyOf handle.now numbers.now counts.now paths.now
+    ensures answer { result ≡ plain_word (many_of handle.now numbers.now counts.now paths.now
         (length out.old)) }
-    ensures buffer { out.new ≡ left (manyOf handle.now numbers.now counts.now paths.now
+    ensures buffer { out.new ≡ left (many_of handle.now numbers.now counts.now paths.now
         (length out.old)) out.old }
 {
     outcome_word(many::lookup(handle, numbers, counts, paths, out))

@@ -3,7 +3,7 @@
 ghost use Rattle.std.specs.Prelude.{◌≡◌, length};
 ghost use Rattle.refusal.specs.Result.{left};
 ghost use Rattle.refusal.specs.Word.{plain_word, answer_word};
-ghost use Rattle.protocol.specs.Server.{commit as commitOf};
+ghost use Rattle.protocol.specs.Server.{commit as commit_of};
 ghost use Rattle.server.specs.Listed.{listed_as};
 ghost use Rattle.sundr.specs.Server.{make_at, listed_at, listing_at};
 
@@ -56,9 +56,9 @@ pub extern "C" fn sundr_server_list_at(server: &[u8], out: &mut [u8]) -> u64
 // A commit to a list whose records are lent beside its number of users: the answer as a number.
 fn committed(users: u8, records: &mut [u8; RECORDS], x: &[u8], mark: u8) -> u64
     requires { length records.old ≡ 1568 }
-    ensures { (result ≡ plain_word (commitOf (record { users = users; records = records.old }) x.now mark))
+    ensures { (result ≡ plain_word (commit_of (record { users = users; records = records.old }) x.now mark))
         × (record { users = users; records = records.new }
-        ≡ left (commitOf (record { users = users; records = records.old }) x.now mark)
+        ≡ left (commit_of (record { users = users; records = records.old }) x.now mark)
         (record { users = users; records = records.old })) }
 {
     refusal::check_word(server::commit_into(users, records, x, mark))
@@ -68,8 +68,8 @@ fn committed(users: u8, records: &mut [u8; RECORDS], x: &[u8], mark: u8) -> u64
 // and nothing is if it is refused.
 #[unsafe(no_mangle)]
 pub extern "C" fn sundr_server_commit(server: &mut Server, x: &[u8], mark: u8) -> u64
-    ensures { (result ≡ plain_word (commitOf server.old x.now mark))
-        × (server.new ≡ left (commitOf server.old x.now mark) server.old) }
+    ensures { (result ≡ plain_word (commit_of server.old x.now mark))
+        × (server.new ≡ left (commit_of server.old x.now mark) server.old) }
 {
     let users = server.users;
     committed(users, &mut server.records, x, mark)

@@ -3,7 +3,7 @@ ghost use Rattle.std.specs.Prelude.{◌≡◌, length};
 ghost use Rattle.refusal.specs.Result.{left};
 ghost use Rattle.refusal.specs.Word.{answer_word};
 ghost use Rattle.itable.specs.Write.{blocks_given, writing};
-ghost use Rattle.writer.specs.Written.{answer_of as writtenAs};
+ghost use Rattle.writer.specs.Written.{answer_of as written_as};
 ghost use Rattle.sundr.specs.Lookup.{looked_up, is_found, lookup_into};
 
 use lookup::Outcome;
@@ -12,7 +12,7 @@ use writer::Written;
 
 // A writer's answer as a number: the first result is the number of blocks.
 fn written_word(w: Written) -> u64
-    ensures { result ≡ answer_word (λ n. n) (λ n. 0) (writtenAs w) }
+    ensures { result ≡ answer_word (λ n. n) (λ n. 0) (written_as w) }
 {
     match w {
         Written::Blocks(n) => refusal::word(0, n, 0),

@@ -7,7 +7,7 @@ mod sides;
 
 ghost use Rattle.std.specs.Prelude.{◌≡◌, true, ◌⊎◌, ℕ, ◌-◌, ◌<◌, eqb, length, get_or};
 ghost use Rattle.layout.specs.Bytes.{values, bytes_at};
-ghost use Rattle.protocol.specs.Version.{size, owner as ownerOf, count as count_of, own, well_formed, standing};
+ghost use Rattle.protocol.specs.Version.{size, owner as owner_of, count as count_of, own, well_formed, standing};
 ghost use Rattle.protocol.specs.Check.{remembers};
 ghost use Rattle.protocol.specs.Meaning.{Users};
 ghost use Rattle.search.specs.Search.{every};
@@ -34,7 +34,7 @@ pub struct Version {
 
 // The owner of a record; 0 where it is too short to have one.
 pub fn owner(x: &[u8]) -> u8
-    ensures { result ≡ ownerOf x.now }
+    ensures { result ≡ owner_of x.now }
 {
     layout::byte_at(x, OWNER)
 }

@@ -1,6 +1,6 @@
 // How many blocks there are, and how many slots each of them uses.
 ghost use Rattle.std.specs.Prelude.{◌≡◌, ◌+◌, ◌*◌, ◌≤◌};
-ghost use Rattle.itable.specs.Table.{wide as wide_of, used_in, blocks as blocksOf};
+ghost use Rattle.itable.specs.Table.{wide as wide_of, used_in, blocks as blocks_of};
 
 // The number of blocks over n entries, never none.
 pub(crate) fn wide(n: usize) -> usize
@@ -24,7 +24,7 @@ pub(crate) fn used_in(n: usize, k: usize) -> usize
 // The number of blocks of a table of n files.
 pub(crate) fn blocks(n: usize) -> usize
     requires { n ≤ 4096 }
-    ensures { (result ≡ blocksOf n) × (result ≤ 273) }
+    ensures { (result ≡ blocks_of n) × (result ≤ 273) }
 {
     let l = wide(n);
     if l <= 1 {

@@ -9,7 +9,7 @@ use borrow.Author.Count.{below_more}
 use borrow.Author.Rules.{rules}
 use borrow.Author.Tests.{not-true, not-false}
 use Rattle.search.proofs.Search.{find_at, find_none}
-use Rattle.protocol.specs.Version.{owner as ownerOf}
+use Rattle.protocol.specs.Version.{owner as owner_of}
 use Rattle.protocol.specs.Server.{follows}
 use Rattle.version.specs.Version.{fields}
 use Rattle.server.proofs.checks.first_apart.Tie as tie
@@ -18,7 +18,7 @@ use Rattle.server.proofs.checks.first_apart.Statement.{statement}
 abbrev invariant-loop : tie.invariant-loop
 invariant-loop records owner new v₀ v =
     (v ≤ 16) ×
-    ((users : ℕ) (x : List ℕ) → owner ≡ ownerOf x → new ≡ (fields x).counts → (k : ℕ) → k < v →
+    ((users : ℕ) (x : List ℕ) → owner ≡ owner_of x → new ≡ (fields x).counts → (k : ℕ) → k < v →
     follows (record { users = users; records = records }) x k ≡ true)
 
 abbrev decreases-loop : tie.decreases-loop

@@ -123,7 +123,7 @@ use borrow.Struct.Items.{List-same}
 use borrow.Struct.Lend.{kept_record_as, record_apart_as, record_fill_as}
 use Rattle.refusal.specs.Result.{left}
 use Rattle.refusal.specs.Word.{plain_word}
-use Rattle.protocol.specs.Server.{commit as commitOf}
+use Rattle.protocol.specs.Server.{commit as commit_of}
 use Rattle.protocol.specs.declared.Server.{Server}
 use Rattle.protocol.specs.contracts.Server as T
 use Rattle.protocol.proofs.Server.TheLaws as T'
@@ -242,7 +242,7 @@ module _ {M : Type 1} {𝓤 : Ura M} (𝓛 : Logic 𝓤) (at_mem : Memory → SP
   to ν δ = (((ν ∷ [], (κ', tt)), (full_share, (q', tt)), tt, args δ, passed ν), tt)
 
   abbrev Said : ℕ → List ℕ → Type 0
-  Said w r = (w ≡ plain_word (commitOf h s.now n)) × (with-records r ≡ left (commitOf h s.now n) h)
+  Said w r = (w ≡ plain_word (commit_of h s.now n)) × (with-records r ≡ left (commit_of h s.now n) h)
 
   module _ (is-u : Is u8 h.users (vint w8 h.users ∷ [])) (is-n : Is u8 n (vint w8 n ∷ [])) (l : length h.records ≡ 1568) where
     asked :
