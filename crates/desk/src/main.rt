@@ -6,17 +6,16 @@
 
 mod stream;
 
-use libc::{STDIN_FILENO, STDOUT_FILENO};
 use report::{MOST, Printed};
 
-fn main() {
+fn main(rt: HostRuntime) {
     // One byte more than the longest input of the stated form, so that a longer one is seen to be.
     let mut input = [0u8; 1718];
-    let n = stream::read(STDIN_FILENO, &mut input);
+    let n = stream::read(&mut rt.stdin(), &mut input);
     // No output is longer, so none is refused.
     let mut output = [0u8; MOST];
     let printed = report::print(&input[..n], &mut output);
     if let Printed::Bytes(k) = printed {
-        stream::write(STDOUT_FILENO, &output[..k]);
+        stream::write(&mut rt.stdout(), &output[..k]);
     }
 }

@@ -1,17 +1,21 @@
-// Reading and writing by the C library, in as many calls as it takes. The bytes go straight between
+// Reading and writing by a stream, in as many calls as it takes. The bytes go straight between
 // the lent buffer and the calls: a buffer of its own would be room on the stack.
 ghost use Rattle.std.specs.Prelude.{◌≤◌, ◌≡◌, length};
 
+use std::io::{Read, Write};
+
 // Reads until `buf` is full, the input ends or a read fails, and answers how many bytes it put at
 // the front of `buf`. No contract can say what was read.
-pub(crate) fn read(fd: i32, buf: &mut [u8]) -> usize
+pub(crate) fn read<R: Read>(input: &mut R, buf: &mut [u8]) -> usize
     ensures upper_bound { result ≤ length buf.old }
     ensures buf_len_unchanged { length buf.new ≡ length buf.old }
 {
     let mut done = 0;
     while done < buf.len() {
         let rest = &mut buf[done..];
-        let more = io::count(libc::read(fd, rest), rest);
+        let Ok(more) = input.read(rest) else {
+            break;
+        };
         if more == 0 {
             break;
         }
@@ -22,13 +26,15 @@ pub(crate) fn read(fd: i32, buf: &mut [u8]) -> usize
 
 // Writes until all of `buf` is taken, or a write takes nothing or fails, and answers how many bytes
 // were taken. For no bytes it makes no call.
-pub(crate) fn write(fd: i32, buf: &[u8]) -> usize
+pub(crate) fn write<W: Write>(output: &mut W, buf: &[u8]) -> usize
     ensures { result ≤ length buf.now }
 {
     let mut done = 0;
     while done < buf.len() {
         let rest = &buf[done..];
-        let more = io::count(libc::write(fd, rest), rest);
+        let Ok(more) = output.write(rest) else {
+            break;
+        };
         if more == 0 {
             break;
         }

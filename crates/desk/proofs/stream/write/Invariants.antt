@@ -1,0 +1,9 @@
+-- The bytes that were taken are no more than the buffer has. Each turn takes at least one.
+use Rattle.std.proofs.Common.{length, ◌-◌, ◌≤◌}
+use Rattle.desk.proofs.stream.write.Given as goal
+
+abbrev pub invariant-loop-done : goal.invariant-loop-done
+invariant-loop-done g l = l.done ≤ length l.buf
+
+abbrev pub decreases-loop-done : goal.decreases-loop-done
+decreases-loop-done g l = length l.buf - l.done
