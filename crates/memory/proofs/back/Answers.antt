@@ -1,0 +1,53 @@
+-- Tests that refuse and a file that is pending are the definition's; otherwise what the file holds is copied.
+use mathlib.Core.List.{◌++◌}
+use mathlib.Core.Path.{ap, ◌∙◌}
+use native.Mathlib.Omega.{arith}
+use lib.ListN.{length, drop}
+use lib.Seq.{take-length}
+use Rattle.refusal.specs.declared.Refusal.TheVariants.{Pending}
+use Rattle.refusal.proofs.Done.{done_refused, done_accepted}
+use Rattle.protocol.specs.Version.{size}
+use Rattle.protocol.specs.MemoryFile.{file_size, back_into}
+use Rattle.memory.proofs.Judged.{was_long, both_long}
+use Rattle.memory.proofs.Calls.{held_short, back_refused, back_pending, back_held}
+use Rattle.memory.proofs.back.Goals as goal
+
+pub returns-in-Refused : goal.returns-in-Refused
+unfolding back_into
+returns-in-Refused c =
+    let a = c.args in
+    let w =
+    done_refused length (λ old. old ++ drop (length old) a.out.now) a.out.now c.in-Refused.r
+    (back_refused a.users a.user a.file.now (length a.out.now) c.both-long.result c.formed.result c.both-long.ensures
+    c.formed.ensures c.judge-c.result c.judge-c.ensures c.in-Refused.is) in
+    record { answers = w.0; leaves = w.1 }
+
+pub returns-then-pending : goal.returns-then-pending
+unfolding back_into
+returns-then-pending c =
+    let a = c.args in
+    let w =
+    done_refused length (λ old. old ++ drop (length old) a.out.now) a.out.now Pending
+    (back_pending a.users a.user a.file.now (length a.out.now) c.both-long.result c.formed.result c.both-long.ensures
+    c.formed.ensures c.judge-c.result c.judge-c.ensures c.in_default.is c.pending.result c.pending.ensures
+    c.if-pending.true) in
+    record { answers = w.0; leaves = w.1 }
+
+pub copy-n-requires : goal.copy-n-requires
+copy-n-requires c =
+    let j = c.judge-c in
+    let l = both_long _ _ file_size _ size c.both-long.ensures (was_long _ _ _ _ j.result j.ensures c.in_default.is) in
+    let s = held_short c.args.file.now l.0 in omega (arith, ap length c.held.ensures, s, l.1)
+
+pub returns : goal.returns
+unfolding back_into
+returns c =
+    let a = c.args in
+    let w =
+    done_accepted length (λ old. old ++ drop (length old) a.out.now) a.out.now
+    (back_held a.users a.user a.file.now (length a.out.now) c.both-long.result c.formed.result c.both-long.ensures
+    c.formed.ensures c.judge-c.result c.judge-c.ensures c.in_default.is c.pending.result c.pending.ensures
+    c.if-pending.false)
+    (c.copy-n.ensures.count ∙ ap length c.held.ensures)
+    (c.copy-n.ensures.copied ∙ rw (take-length c.held.result.now, c.held.ensures)) in
+    record { answers = w.0; leaves = w.1 }

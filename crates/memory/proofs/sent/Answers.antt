@@ -1,0 +1,24 @@
+-- Tests that refuse are the definition's; where they pass, a pending file's state is set, and any other file stays.
+use borrow.Author.Tests.{eqb-true}
+use Rattle.refusal.proofs.Stage.{hands_on, goes_on_to, gives_result}
+use Rattle.memory.proofs.Judged.{was_long}
+use Rattle.memory.proofs.Calls.{sent_due, sent_kept, sent_set}
+use Rattle.memory.proofs.sent.Goals as goal
+
+pub returns-in_default : goal.returns-in_default
+returns-in_default c =
+    hands_on _ _ (sent_due _ _ _ _ c.formed.ensures) c.judge-c.result c.judge-c.ensures (rw c.in_default.is)
+
+pub returns-then-not-pending : goal.returns-then-not-pending
+returns-then-not-pending c =
+    gives_result _ _
+    (goes_on_to _ _ (sent_due _ _ _ _ c.formed.ensures) c.judge-c.result c.judge-c.ensures (rw c.in-Passed.is))
+    (sent_kept _ _ c.pending.ensures c.if-not-pending.true)
+
+pub returns : goal.returns
+returns c =
+    let j = c.judge-c in
+    let l = eqb-true _ 100 (was_long _ _ _ _ j.result j.ensures c.in-Passed.is) in
+    gives_result _ _
+    (goes_on_to _ _ (sent_due _ _ _ _ c.formed.ensures) j.result j.ensures (rw c.in-Passed.is))
+    (sent_set _ _ _ c.pending.ensures c.if-not-pending.false l c.clear.ensures)
