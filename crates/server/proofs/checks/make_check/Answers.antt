@@ -14,9 +14,9 @@ returns-then-users-lt1 c = let e : c.args.users ≡ 0 = omega arith in rw e
 pub returns-then-users-gt16 : goal.returns-then-users-gt16
 unfolding make_steps in_order
 returns-then-users-gt16 c =
-    let n = c.args.users in rw (le-leb 1 n (omega arith), lt-leb n 16 c.if-users-gt16.true)
+    let n = c.args.users in rw (le-leb 1 n (omega arith), lt-leb n 16 (omega arith))
 
 pub returns : goal.returns
 unfolding make_steps in_order
 returns c =
-    let n = c.args.users in rw (le-leb 1 n (omega arith), le-leb n 16 c.if-users-gt16.false)
+    let n = c.args.users in rw (le-leb 1 n (omega arith), le-leb n 16 (omega arith))
