@@ -1,5 +1,5 @@
 -- A message that is too long has no hash; of any other the 32 bytes are made, and compared. There is no loop.
-use Rattle.std.proofs.Common.{length, sym, ap, ◌∙◌, rules}
+use Rattle.std.proofs.Common.{length, sym, ap, ◌∙◌}
 use borrow.Author.Tests.{lt-leb}
 use Rattle.layout.specs.Strings.{same}
 use Rattle.sha256.specs.Sha256.{sha256, bytes_of}

@@ -1,6 +1,6 @@
 -- Each length that is refused is tested before the first store, and what is stored then is the hash value after the padding, whose
 -- bytes are the definition's. There is no loop here: the blocks' is in `blocks`.
-use Rattle.std.proofs.Common.{◌≡◌, ℕ, List, sym, ap, ◌∙◌, rules}
+use Rattle.std.proofs.Common.{◌≡◌, ℕ, List, sym, ap, ◌∙◌}
 use Rattle.refusal.specs.Answer.{Answer, accepted, refused}
 use Rattle.refusal.specs.Result.{Gives}
 use Rattle.refusal.specs.declared.Check.TheVariants.{Passed, Refused}

@@ -1,5 +1,4 @@
 -- Each sum is that of FIPS's step 4, word by word. There is no loop.
-use Rattle.std.proofs.Common.{rules}
 use Rattle.sha256.specs.Sha256.{added}
 use Rattle.sha256.proofs.block.add.Goals as goal
 

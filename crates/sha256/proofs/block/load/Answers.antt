@@ -1,4 +1,4 @@
-use Rattle.std.proofs.Common.{◌≡◌, ◌-◌, ◌*◌, ◌≤◌, length, take, sym, refl, ◌∙◌, arith, length-set, take_all, rules}
+use Rattle.std.proofs.Common.{◌≡◌, ◌*◌, sym, refl, ◌∙◌, arith, length-set, take_all}
 use Rattle.layout.specs.Bytes.{four, values}
 use Rattle.layout.proofs.Values.{filled}
 use Rattle.sha256.proofs.block.load.Goals as goal

@@ -1,7 +1,6 @@
 -- Word t is made of its four bytes and stored at t. The invariant: the words below t are loaded.
-use Rattle.std.proofs.Common.{◌≡◌, ◌-◌, ◌*◌, ◌≤◌, length, take, sym, refl, ◌∙◌, arith, length-set, take_all, rules}
+use Rattle.std.proofs.Common.{◌≡◌, ◌-◌, ◌*◌, ◌≤◌, length, take}
 use Rattle.layout.specs.Bytes.{four, values}
-use Rattle.layout.proofs.Values.{filled}
 use Rattle.sha256.proofs.block.load.Given as goal
 
 abbrev pub invariant-loop-t : goal.invariant-loop-t

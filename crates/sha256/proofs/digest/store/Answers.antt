@@ -1,5 +1,4 @@
 -- The bytes of the word, copied to their place in the buffer, which has room for them by what the caller shows. There is no loop.
-use Rattle.std.proofs.Common.{rules}
 use Rattle.sha256.proofs.Stores.{stored}
 use Rattle.sha256.proofs.digest.store.Goals as goal
 

@@ -1,5 +1,4 @@
 -- Eight stores of four bytes, end to end, leave nothing of the 32 bytes that the buffer held (`written`). There is no loop.
-use Rattle.std.proofs.Common.{rules}
 use Rattle.sha256.proofs.Stores.{written}
 use Rattle.sha256.proofs.digest.write.Goals as goal
 

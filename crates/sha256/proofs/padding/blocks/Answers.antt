@@ -1,4 +1,4 @@
-use Rattle.std.proofs.Common.{◌≡◌, ◌-◌, ◌/◌, ◌%◌, ◌≤◌, length, refl, ◌∙◌, arith, rules}
+use Rattle.std.proofs.Common.{◌≡◌, ◌/◌, length, refl, ◌∙◌, arith, rules}
 use Rattle.sha256.proofs.LastBlocks.{next_block}
 use Rattle.sha256.specs.Sha256.{hashed}
 use Rattle.sha256.proofs.padding.blocks.Goals as goal

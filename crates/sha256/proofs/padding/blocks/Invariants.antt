@@ -1,7 +1,6 @@
 -- Each turn compresses the block that the definition names next, the part of the message from `at` (`next_block`). The invariant: `at`
 -- stands at a block's start within the message, and `s` is the hash value after the blocks before it.
-use Rattle.std.proofs.Common.{◌≡◌, ◌-◌, ◌/◌, ◌%◌, ◌≤◌, length, refl, ◌∙◌, arith, rules}
-use Rattle.sha256.proofs.LastBlocks.{next_block}
+use Rattle.std.proofs.Common.{◌≡◌, ◌-◌, ◌/◌, ◌%◌, ◌≤◌, length}
 use Rattle.sha256.specs.Sha256.{hashed}
 use Rattle.sha256.proofs.padding.blocks.Given as goal
 

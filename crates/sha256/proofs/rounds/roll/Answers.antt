@@ -6,6 +6,6 @@ use Rattle.sha256.proofs.rounds.roll.Goals as goal
 pub returns : goal.returns
 unfolding rolled
 returns c = record {
-      long = search rules;
-      leaves = cc;
-    }
+  long = search rules;
+  leaves = cc;
+}

@@ -1,5 +1,5 @@
 -- Sixteen rounds over one array, each one more by the law `one_more`. There is no loop.
-use Rattle.std.proofs.Common.{ℕ, List, lit<}
+use Rattle.std.proofs.Common.{ℕ, List}
 use Rattle.sha256.proofs.RoundsTaken.{one_more, none}
 use Rattle.sha256.proofs.rounds.rounds_from_48.Goals as goal
 
@@ -23,4 +23,4 @@ returns c =
     let e13 = one_more q z 48 12 e12 c.last_turn-s13.ensures.took in
     let e14 = one_more q z 48 13 e13 c.last_turn-s14.ensures.took in
     let e15 = one_more q z 48 14 e14 c.last_turn-s15.ensures.took in
-    one_more q z 48 15 e15 c.last_turn.ensures.took
+    record { takes = one_more q z 48 15 e15 c.last_turn.ensures.took }
