@@ -1,5 +1,4 @@
 -- Each sum is FIPS's, with T1 added up in another order. There is no loop.
-use Rattle.std.proofs.Common.{◌≡◌}
 use Rattle.sha256.specs.Sha256.{round_of, Σ1, Ch}
 use Rattle.sha256.proofs.Sums.{reordered}
 use Rattle.sha256.proofs.rounds.round.Goals as goal
@@ -8,5 +7,4 @@ pub returns : goal.returns
 unfolding round_of
 returns c =
     let s = c.args in
-    let ch : c.choose.result ≡ Ch s.s.e s.s.f s.s.g = c.choose.ensures in
     cc (reordered s.s.h (Σ1 s.s.e) (Ch s.s.e s.s.f s.s.g) s.k s.w)
