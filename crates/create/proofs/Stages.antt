@@ -5,7 +5,7 @@ use mathlib.Core.List.{List, []}
 use mathlib.Core.Path.{◌≡◌, refl, sym, ap, ◌∙◌}
 use borrow.Author.Tests.{eq-eqb, ne_eqb}
 use lib.Dec.{eqb}
-use lib.ListN.{length, get_or}
+use lib.ListN.{get_or}
 use Rattle.search.specs.Search.{every}
 use Rattle.refusal.specs.Answer.{Answer, accepted, refused}
 use Rattle.refusal.specs.Order.{in_order, tried}
@@ -17,7 +17,7 @@ use Rattle.refusal.proofs.Stage.{Went}
 use Rattle.protocol.specs.Version.{count, structure}
 use Rattle.protocol.specs.Check.{last_count, remembers}
 use Rattle.protocol.specs.Create.{length_steps, count_steps}
-use Rattle.protocol.specs.MemoryFile.{held, formed, given_steps, create_file}
+use Rattle.protocol.specs.MemoryFile.{held, given_steps, create_file}
 use Rattle.protocol.specs.History.{Making}
 use Rattle.protocol.specs.CreateMeaning.{ToLengths}
 use Rattle.protocol.proofs.CreateMeans.{Sized, length_stages}
