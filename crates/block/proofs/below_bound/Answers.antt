@@ -1,0 +1,14 @@
+-- The definition by cases: no bound, no number, and the last number, which is above the others.
+use Rattle.block.proofs.Laws.{unbounded, none_bounded, last_bounded}
+use Rattle.block.proofs.below_bound.Goals as goal
+
+pub returns-then-bound-eq0 : goal.returns-then-bound-eq0
+returns-then-bound-eq0 c = unbounded _ _ c.if-bound-eq0.true
+
+pub returns-then-used-eq0 : goal.returns-then-used-eq0
+returns-then-used-eq0 c = none_bounded _ _ c.if-bound-eq0.false _ c.used-used.ensures c.if-used-eq0.true
+
+pub returns : goal.returns
+returns c =
+    last_bounded _ _ c.if-bound-eq0.false _ c.used-used.ensures c.if-used-eq0.false c.requires _
+    c.number.ensures
