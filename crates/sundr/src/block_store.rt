@@ -5,8 +5,7 @@ ghost use Rattle.refusal.specs.Word.{answer_word, plain_word};
 ghost use Rattle.store.specs.Calls.{make, store as store_of, retrieve, retrieve_into, unreference, after_unreference};
 
 // An empty store, of 526,464 lent bytes.
-#[unsafe(no_mangle)]
-pub extern "C" fn sundr_store_make(store: &mut [u8]) -> u64
+pub fn sundr_store_make(store: &mut [u8]) -> u64
     ensures answer { result ≡ plain_word (make store.old) }
     ensures buffer { store.new ≡ left (make store.old) store.old }
 {
@@ -14,8 +13,7 @@ pub extern "C" fn sundr_store_make(store: &mut [u8]) -> u64
 }
 
 // A block stored for a user.
-#[unsafe(no_mangle)]
-pub extern "C" fn sundr_store(store: &mut [u8], user: u8, block: &[u8]) -> u64
+pub fn sundr_store(store: &mut [u8], user: u8, block: &[u8]) -> u64
     ensures answer { result ≡ plain_word (store_of store.old user block.now) }
     ensures buffer { store.new ≡ left (store_of store.old user block.now) store.old }
 {
@@ -23,8 +21,7 @@ pub extern "C" fn sundr_store(store: &mut [u8], user: u8, block: &[u8]) -> u64
 }
 
 // The block of a hash, to the front of a lent buffer: the first result is its length.
-#[unsafe(no_mangle)]
-pub extern "C" fn sundr_retrieve(store: &[u8], hash: &[u8], out: &mut [u8]) -> u64
+pub fn sundr_retrieve(store: &[u8], hash: &[u8], out: &mut [u8]) -> u64
     ensures answer { result ≡ answer_word length (λ b. 0) (retrieve store.now hash.now (length out.old)) }
     ensures buffer { out.new ≡ left (retrieve_into store.now hash.now out.old) out.old }
 {
@@ -32,8 +29,7 @@ pub extern "C" fn sundr_retrieve(store: &[u8], hash: &[u8], out: &mut [u8]) -> u
 }
 
 // One taken from a user's count of a hash: the first result is 1, or 0 if there was none to take.
-#[unsafe(no_mangle)]
-pub extern "C" fn sundr_unreference(store: &mut [u8], user: u8, hash: &[u8]) -> u64
+pub fn sundr_unreference(store: &mut [u8], user: u8, hash: &[u8]) -> u64
     ensures answer { result ≡ answer_word (λ t. t.took) (λ t. 0) (unreference store.old user hash.now) }
     ensures buffer { store.new ≡ left (after_unreference store.old user hash.now) store.old }
 {

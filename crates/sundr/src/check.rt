@@ -34,8 +34,7 @@ fn put(counts: [u32; 16], out: &mut [u32])
 
 // A client's check of a version structure list, on its memory file: the counts of its next structure,
 // into sixteen lent numbers; or 255, and into 98 lent bytes the structure that is to be sent again.
-#[unsafe(no_mangle)]
-pub extern "C" fn sundr_memory_check(
+pub fn sundr_memory_check(
     users: u8,
     user: u8,
     file: &[u8],

@@ -9,8 +9,7 @@ use cache::Choice;
 // Which of two parts is the block of the wanted hash: the first result is 0 for the reply and 1 for
 // the cached part, the second is that part's length. A reference cannot be handed out to C; the
 // header's `sundr_chosen` makes the pointer from this number.
-#[unsafe(no_mangle)]
-pub extern "C" fn sundr_block_choose<'a>(wanted: &[u8], reply: &'a [u8], cached: &'a [u8]) -> u64
+pub fn sundr_block_choose<'a>(wanted: &[u8], reply: &'a [u8], cached: &'a [u8]) -> u64
     ensures { result ≡ answer_word part_number (part_length reply.now cached.now)
         (choose wanted.now reply.now cached.now) }
 {

@@ -20,8 +20,7 @@ fn number(s: Standing) -> usize
 
 // How sixteen counts stand to sixteen others. Both are lent by their addresses alone: there is no
 // length, and so nothing to refuse.
-#[unsafe(no_mangle)]
-pub extern "C" fn sundr_compare(x: &[u32; 16], y: &[u32; 16]) -> u64
+pub fn sundr_compare(x: &[u32; 16], y: &[u32; 16]) -> u64
     ensures { result ≡ answer_word standing_number (λ s. 0) (compared x.now y.now) }
 {
     refusal::word(0, number(version::compare(*x, *y)), 0)

@@ -18,8 +18,7 @@ fn spanned_word(s: Spanned) -> u64
 }
 
 // Whether a block is the one of that index of a file, under the file's handle and inode.
-#[unsafe(no_mangle)]
-pub extern "C" fn sundr_block_check(handle: &[u8], inode: &[u8], index: u32, block: &[u8]) -> u64
+pub fn sundr_block_check(handle: &[u8], inode: &[u8], index: u32, block: &[u8]) -> u64
     ensures { result ≡ answer_word (λ (a : Span). a.offset) (λ a. a.size)
         (block_check handle.now inode.now index block.now) }
 {
@@ -27,8 +26,7 @@ pub extern "C" fn sundr_block_check(handle: &[u8], inode: &[u8], index: u32, blo
 }
 
 // The same of a large file, with the indirect block for a block that its inode does not name.
-#[unsafe(no_mangle)]
-pub extern "C" fn sundr_large_block_check(
+pub fn sundr_large_block_check(
     handle: &[u8],
     inode: &[u8],
     index: u32,

@@ -5,15 +5,15 @@
 // how two structures stand and which part was chosen.
 #![tactic(auto)]
 
-mod block_store;
-mod check;
-mod choose;
-mod compare;
-mod file;
-mod hash;
-mod making;
-mod memory_file;
-mod questions;
+pub mod block_store;
+pub mod check;
+pub mod choose;
+pub mod compare;
+pub mod file;
+pub mod hash;
+pub mod making;
+pub mod memory_file;
+pub mod questions;
 mod server_bytes;
-mod server_list;
-mod table;
+pub mod server_list;
+pub mod table;

@@ -5,8 +5,7 @@ ghost use Rattle.refusal.specs.Word.{plain_word};
 ghost use Rattle.protocol.specs.MemoryFile.{create_file};
 
 // A client's next version structure, from its memory file and the counts that a check gave, into 98 lent bytes.
-#[unsafe(no_mangle)]
-pub extern "C" fn sundr_memory_create(
+pub fn sundr_memory_create(
     users: u8,
     user: u8,
     file: &[u8],

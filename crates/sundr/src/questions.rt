@@ -23,8 +23,7 @@ fn outcome_word(o: Outcome) -> u64
 
 // The handles of up to 64 files, each along its own path of an i-table's blocks, into 33 lent bytes
 // for each.
-#[unsafe(no_mangle)]
-pub extern "C" fn sundr_lookup_many(
+pub fn sundr_lookup_many(
     handle: &[u8],
     numbers: &[u64],
     counts: &[u8],

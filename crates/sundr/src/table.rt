@@ -21,8 +21,7 @@ fn written_word(w: Written) -> u64
 }
 
 // The blocks of an i-table, to the front of a lent buffer.
-#[unsafe(no_mangle)]
-pub extern "C" fn sundr_table_write(numbers: &[u64], handles: &[u8], out: &mut [u8]) -> u64
+pub fn sundr_table_write(numbers: &[u64], handles: &[u8], out: &mut [u8]) -> u64
     ensures answer { result ≡ answer_word (λ n. n) (λ n. 0) (blocks_given numbers.now handles.now (length out.old)) }
     ensures buffer { out.new ≡ left (writing numbers.now handles.now out.old) out.old }
 {
@@ -31,8 +30,7 @@ pub extern "C" fn sundr_table_write(numbers: &[u64], handles: &[u8], out: &mut [
 
 // A file's handle, along a path of an i-table's blocks, into 32 lent bytes. The first result says
 // whether there is such a file.
-#[unsafe(no_mangle)]
-pub extern "C" fn sundr_lookup(handle: &[u8], number: u64, path: &[u8], out: &mut [u8]) -> u64
+pub fn sundr_lookup(handle: &[u8], number: u64, path: &[u8], out: &mut [u8]) -> u64
     ensures answer { result ≡ answer_word is_found (λ e. 0) (looked_up handle.now number path.now (length out.old)) }
     ensures buffer { out.new ≡ left (lookup_into handle.now number path.now out.old) out.old }
 {

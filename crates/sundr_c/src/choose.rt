@@ -1,0 +1,18 @@
+// A block from a reply or from a cache, for C.
+ghost use Rattle.std.specs.Prelude.{◌≡◌};
+ghost use Rattle.refusal.specs.Word.{answer_word};
+ghost use Rattle.cache.specs.Choose.{choose};
+ghost use Rattle.sundr.specs.Choose.{part_number, part_length};
+
+use sundr::choose;
+
+// Which of two parts is the block of the wanted hash: the first result is 0 for the reply and 1 for
+// the cached part, the second is that part's length. A reference cannot be handed out to C; the
+// header's `sundr_chosen` makes the pointer from this number.
+#[unsafe(no_mangle)]
+pub extern "C" fn sundr_block_choose<'a>(wanted: &[u8], reply: &'a [u8], cached: &'a [u8]) -> u64
+    ensures { result ≡ answer_word part_number (part_length reply.now cached.now)
+        (choose wanted.now reply.now cached.now) }
+{
+    choose::sundr_block_choose(wanted, reply, cached)
+}

@@ -1,0 +1,31 @@
+// A file's blocks, for C.
+ghost use Rattle.std.specs.Prelude.{◌≡◌};
+ghost use Rattle.refusal.specs.Word.{answer_word};
+ghost use Rattle.itable.specs.Inode.{Span, block_check};
+ghost use Rattle.itable.specs.LargeInode.{large_check};
+
+use sundr::file;
+
+// Whether a block is the one of that index of a file, under the file's handle and inode.
+#[unsafe(no_mangle)]
+pub extern "C" fn sundr_block_check(handle: &[u8], inode: &[u8], index: u32, block: &[u8]) -> u64
+    ensures { result ≡ answer_word (λ (a : Span). a.offset) (λ a. a.size)
+        (block_check handle.now inode.now index block.now) }
+{
+    file::sundr_block_check(handle, inode, index, block)
+}
+
+// The same of a large file, with the indirect block for a block that its inode does not name.
+#[unsafe(no_mangle)]
+pub extern "C" fn sundr_large_block_check(
+    handle: &[u8],
+    inode: &[u8],
+    index: u32,
+    indirect: &[u8],
+    block: &[u8],
+) -> u64
+    ensures { result ≡ answer_word (λ (a : Span). a.offset) (λ a. a.size) (large_check
+        handle.now inode.now index indirect.now block.now) }
+{
+    file::sundr_large_block_check(handle, inode, index, indirect, block)
+}
