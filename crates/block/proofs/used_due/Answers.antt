@@ -1,4 +1,5 @@
 -- The definition by cases: too many, some, and none.
+use native.Mathlib.Omega.{arith}
 use Rattle.block.proofs.Laws.{too_many, some_used, empty_child, empty_root}
 use Rattle.block.proofs.used_due.Goals as goal
 
@@ -9,8 +10,8 @@ pub returns-then-used-gt0 : goal.returns-then-used-gt0
 returns-then-used-gt0 c = some_used _ _ _ c.used-used.ensures c.if-used-gt-SLOTS.false c.if-used-gt0.true
 
 pub returns-then-due-gt0 : goal.returns-then-due-gt0
-returns-then-due-gt0 c = empty_child _ _ _ c.used-used.ensures c.if-used-gt0.false c.if-due-gt0.true
+returns-then-due-gt0 c = empty_child _ _ _ c.used-used.ensures c.if-used-gt0.false (omega arith)
 
 pub returns : goal.returns
 returns c =
-    empty_root _ _ _ c.used-used.ensures c.if-used-gt0.false c.if-due-gt0.false _ c.kind.ensures
+    empty_root _ _ _ c.used-used.ensures c.if-used-gt0.false (omega arith) _ c.kind.ensures
