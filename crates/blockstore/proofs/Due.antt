@@ -2,18 +2,16 @@
 use Prim.Native.Nat.{ℕ, ◌+◌, ◌*◌, ◌≤◌, ◌<◌}
 use mathlib.Core.Bool.{Bool, true, false, not, ◌||◌}
 use mathlib.Core.List.{List, [], ◌∷◌}
-use mathlib.Core.Path.{◌≡◌, refl, ap, ◌∙◌}
+use mathlib.Core.Path.{◌≡◌, refl}
 use native.Mathlib.Omega.{arith}
 use lib.Dec.{leb, ltb, eqb}
 use lib.ListN.{length}
 use borrow.Author.Tests.{lt-ltb, le-leb, lt-leb}
-use Rattle.layout.proofs.Bytes.{two_past}
-use Rattle.layout.proofs.Parts.{part_past}
 use Rattle.refusal.specs.Answer.{Answer, accepted, refused}
 use Rattle.refusal.specs.Order.{Step, pass, unless, in_order}
 use Rattle.refusal.proofs.Means.{in_append}
 use Rattle.sha256.specs.Sha256.{sha256}
-use Rattle.store.specs.Place.{place_size, store_size, place, count, place_of, is_held, first_free}
+use Rattle.store.specs.Place.{store_size, place, count, place_of, is_held, first_free}
 use Rattle.store.specs.Calls.{store_steps, stored, store, block_of, retrieve_steps, retrieve, Unreferenced, unreferenced, unreference_steps, unreference}
 use Rattle.store.proofs.Places.{number_past}
 use Rattle.blockstore.specs.Internal.Stages.{admit_steps, counted_once, filled_free}

@@ -1,8 +1,6 @@
 -- Each test is the definition's, in its order.
 use mathlib.Core.Path.{sym}
-use borrow.Author.Tests.{not-true, not-false}
 use Rattle.blockstore.proofs.Admitted.{no_user, other_length, unfitting, unfit_place, admits}
-use borrow.Author.Rules.{rules}
 use Rattle.blockstore.proofs.admit.Goals as goal
 
 pub returns-then-user-gt15 : goal.returns-then-user-gt15

@@ -2,7 +2,6 @@
 use mathlib.Core.Path.{refl, sym, ◌∙◌}
 use Rattle.refusal.proofs.Match.{gives_refused}
 use Rattle.blockstore.proofs.Laws.{accepts, last_refused, counts_once}
-use borrow.Author.Rules.{rules}
 use Rattle.blockstore.proofs.count_one.Goals as goal
 
 pub returns-then-n : goal.returns-then-n

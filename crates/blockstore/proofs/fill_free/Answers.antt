@@ -29,13 +29,13 @@ pub overflow_add-at-2 : goal.overflow_add-at-2
 overflow_add-at-2 c = let l = below c.args.store.now _ c.first_free-p.ensures c.if-p-eq-PLACES.false in omega arith
 
 pub put-requires : goal.put-requires
-put-requires c =  let l = below c.args.store.now _ c.first_free-p.ensures c.if-p-eq-PLACES.false in search rules
+put-requires c = let l = below c.args.store.now _ c.first_free-p.ensures c.if-p-eq-PLACES.false in search rules
 
 pub recount_at-requires : goal.recount_at-requires
-recount_at-requires c =  let l = below c.args.store.now _ c.first_free-p.ensures c.if-p-eq-PLACES.false in search rules
+recount_at-requires c = let l = below c.args.store.now _ c.first_free-p.ensures c.if-p-eq-PLACES.false in search rules
 
 pub put-requires-2 : goal.put-requires-2
-put-requires-2 c =  let l = below c.args.store.now _ c.first_free-p.ensures c.if-p-eq-PLACES.false in search rules
+put-requires-2 c = let l = below c.args.store.now _ c.first_free-p.ensures c.if-p-eq-PLACES.false in search rules
 
 pub returns : goal.returns
 returns c =

@@ -14,7 +14,6 @@ use Rattle.blockstore.specs.Internal.Stages.{admit_steps}
 use Rattle.sha256.proofs.Laws.{hash_left}
 use Rattle.blockstore.proofs.Admitted.{Admitted, admitted}
 use Rattle.blockstore.proofs.Calls.{store_refused, store_counted, store_filled}
-use borrow.Author.Rules.{rules}
 use Rattle.blockstore.proofs.store.Goals as goal
 
 -- What is known of a store that is admitted, and of the hash that is looked for.

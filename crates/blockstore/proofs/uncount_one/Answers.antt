@@ -1,7 +1,6 @@
 -- At zero nothing is done; otherwise one less is written.
 use mathlib.Core.Path.{refl, sym, ◌∙◌}
 use Rattle.blockstore.proofs.Laws.{takes_none, takes_one}
-use borrow.Author.Rules.{rules}
 use Rattle.blockstore.proofs.uncount_one.Goals as goal
 
 pub returns-then-n-eq0 : goal.returns-then-n-eq0

@@ -15,7 +15,6 @@ use Rattle.store.specs.Calls.{Unreferenced}
 use Rattle.refusal.proofs.Done.{done_refused, done_accepted}
 use Rattle.blockstore.proofs.Admitted.{Admitted, admitted}
 use Rattle.blockstore.proofs.Calls.{holder_most, unreference_refused, unreference_none, unreference_one}
-use borrow.Author.Rules.{rules}
 use Rattle.blockstore.proofs.unreference.Goals as goal
 
 -- What is known of a store that is admitted.

@@ -1,7 +1,6 @@
 -- The count of a place, where it stands in the store.
 use mathlib.Core.Path.{◌∙◌}
 use Rattle.blockstore.proofs.Laws.{count_there}
-use borrow.Author.Rules.{rules}
 use Rattle.blockstore.proofs.place.count_at.Goals as goal
 
 pub returns : goal.returns

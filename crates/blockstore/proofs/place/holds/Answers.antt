@@ -2,7 +2,6 @@
 use mathlib.Core.Path.{sym, ◌∙◌}
 use Rattle.store.specs.Place.{holds}
 use Rattle.blockstore.proofs.Laws.{block_hashed}
-use borrow.Author.Rules.{rules}
 use Rattle.blockstore.proofs.place.holds.Goals as goal
 
 pub returns-then-is_free : goal.returns-then-is_free

@@ -1,7 +1,6 @@
 -- Sixteen counts are zero where their 32 bytes are.
 use mathlib.Core.Path.{◌∙◌}
 use Rattle.blockstore.proofs.Laws.{free_bytes}
-use borrow.Author.Rules.{rules}
 use Rattle.blockstore.proofs.place.is_free.Goals as goal
 
 pub returns : goal.returns

@@ -4,7 +4,6 @@ use native.Mathlib.Omega.{arith}
 use lib.ListN.{length}
 use Rattle.layout.specs.Bytes.{put_at}
 use Rattle.layout.proofs.Copied.{copied}
-use borrow.Author.Rules.{rules}
 use Rattle.blockstore.proofs.place.put.Goals as goal
 
 pub returns : goal.returns

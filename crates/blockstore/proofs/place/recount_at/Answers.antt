@@ -1,7 +1,6 @@
 -- The two bytes of the count are put where it stands.
 use mathlib.Core.Path.{sym, ◌∙◌}
 use Rattle.store.proofs.Changed.{recount_put}
-use borrow.Author.Rules.{rules}
 use Rattle.blockstore.proofs.place.recount_at.Goals as goal
 
 pub returns : goal.returns

@@ -2,16 +2,12 @@
 -- The invariant: no place below p is free.
 use Prim.Native.Nat.{ℕ, ◌-◌, ◌≤◌, ◌<◌}
 use mathlib.Core.Bool.{false}
-use mathlib.Core.Path.{◌≡◌, sym, ◌∙◌}
-use native.Mathlib.Omega.{arith}
-use borrow.Author.Rules.{rules}
-use Rattle.search.proofs.Search.{span_more}
-use Rattle.store.specs.Place.{place, free, first_free}
-use Rattle.blockstore.proofs.Laws.{of_place, stops, ends}
+use mathlib.Core.Path.{◌≡◌}
+use Rattle.store.specs.Place.{place, free}
 use Rattle.blockstore.proofs.places.first_free.Given as goal
 
 abbrev pub invariant-loop-p : goal.invariant-loop-p
-invariant-loop-p l =     (l.p ≤ 64) × ((j : ℕ) → 0 ≤ j → j < l.p → free (place l.store j) ≡ false)
+invariant-loop-p l = (l.p ≤ 64) × ((j : ℕ) → 0 ≤ j → j < l.p → free (place l.store j) ≡ false)
 
 abbrev pub decreases-loop-p : goal.decreases-loop-p
 decreases-loop-p l = 64 - l.p

@@ -1,6 +1,4 @@
-use Prim.Native.Nat.{ℕ, ◌-◌, ◌≤◌, ◌<◌}
-use mathlib.Core.Bool.{false}
-use mathlib.Core.Path.{◌≡◌, sym, ◌∙◌}
+use mathlib.Core.Path.{sym, ◌∙◌}
 use native.Mathlib.Omega.{arith}
 use borrow.Author.Rules.{rules}
 use Rattle.search.proofs.Search.{span_more}
@@ -12,7 +10,7 @@ pub loop-p-init : goal.loop-p-init
 loop-p-init c = (omega arith, λ j a l. absurd (omega arith))
 
 pub holds-requires : goal.holds-requires
-holds-requires c =  place_fits c.args.store.now c.loop-p.p c.requires.0 (omega arith) c.requires.1
+holds-requires c = place_fits c.args.store.now c.loop-p.p c.requires.0 (omega arith) c.requires.1
 
 pub returns-then-holds : goal.returns-then-holds
 unfolding place_of

@@ -2,16 +2,12 @@
 -- The invariant: no place below p holds it.
 use Prim.Native.Nat.{ℕ, ◌-◌, ◌≤◌, ◌<◌}
 use mathlib.Core.Bool.{false}
-use mathlib.Core.Path.{◌≡◌, sym, ◌∙◌}
-use native.Mathlib.Omega.{arith}
-use borrow.Author.Rules.{rules}
-use Rattle.search.proofs.Search.{span_more}
-use Rattle.store.specs.Place.{place, holds, place_of}
-use Rattle.blockstore.proofs.Laws.{of_place, place_fits, stops, ends}
+use mathlib.Core.Path.{◌≡◌}
+use Rattle.store.specs.Place.{place, holds}
 use Rattle.blockstore.proofs.places.place_of.Given as goal
 
 abbrev pub invariant-loop-p : goal.invariant-loop-p
-invariant-loop-p l =     (l.p ≤ 64) × ((j : ℕ) → 0 ≤ j → j < l.p → holds (place l.store j) l.hash ≡ false)
+invariant-loop-p l = (l.p ≤ 64) × ((j : ℕ) → 0 ≤ j → j < l.p → holds (place l.store j) l.hash ≡ false)
 
 abbrev pub decreases-loop-p : goal.decreases-loop-p
 decreases-loop-p l = 64 - l.p
