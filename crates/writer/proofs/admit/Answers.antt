@@ -1,6 +1,5 @@
 -- The tests of the definition, in its order; each `return` has the first that fails.
 use Rattle.writer.proofs.Admission.{too_many, not_handled, not_ascending, no_room, admitted}
-use borrow.Author.Rules.{rules}
 use Rattle.writer.proofs.admit.Goals as goal
 
 pub returns-then-n-gt-MOST : goal.returns-then-n-gt-MOST

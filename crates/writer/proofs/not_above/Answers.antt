@@ -1,11 +1,8 @@
-use Prim.Native.Nat.{ℕ, ◌-◌, ◌≤◌, ◌<◌}
-use mathlib.Core.Bool.{true, not}
+use mathlib.Core.Bool.{not}
 use mathlib.Core.Path.{◌≡◌, sym, ap, ◌∙◌}
 use native.Mathlib.Omega.{arith}
-use lib.ListN.{length}
 use borrow.Author.Count.{below_more}
 use Rattle.search.proofs.Search.{find_at, find_none}
-use Rattle.itable.specs.Write.{number_above}
 use Rattle.writer.proofs.Counts.{first_above, is_above, not_above}
 use Rattle.writer.proofs.not_above.Goals as goal
 

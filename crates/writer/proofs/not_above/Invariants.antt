@@ -1,14 +1,10 @@
 -- `return i` has the first number that is not above the one before.
 -- The invariant: each number passed is above the one before, the first being so.
 use Prim.Native.Nat.{ℕ, ◌-◌, ◌≤◌, ◌<◌}
-use mathlib.Core.Bool.{true, not}
-use mathlib.Core.Path.{◌≡◌, sym, ap, ◌∙◌}
-use native.Mathlib.Omega.{arith}
+use mathlib.Core.Bool.{true}
+use mathlib.Core.Path.{◌≡◌}
 use lib.ListN.{length}
-use borrow.Author.Count.{below_more}
-use Rattle.search.proofs.Search.{find_at, find_none}
 use Rattle.itable.specs.Write.{number_above}
-use Rattle.writer.proofs.Counts.{first_above, is_above, not_above}
 use Rattle.writer.proofs.not_above.Given as goal
 
 abbrev pub invariant-loop-i : goal.invariant-loop-i

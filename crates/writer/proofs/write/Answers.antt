@@ -6,7 +6,6 @@ use Rattle.writer.proofs.Answers.{admitted_by, writes_nothing, writes_all, leave
 use Rattle.writer.proofs.Counts.{one_leaf, one_four, one_five}
 use Rattle.writer.proofs.Rows.{files_sized}
 use Rattle.writer.proofs.Whole.{leaves_alone, fours_last, fives_last}
-use borrow.Author.Rules.{rules}
 use Rattle.writer.proofs.write.Goals as goal
 
 pub returns-in-Refused : goal.returns-in-Refused

@@ -1,6 +1,5 @@
 -- The definition by cases: a row of more than one block has a row over it.
 use Rattle.writer.proofs.Counts.{one_leaf, one_four, one_five}
-use borrow.Author.Rules.{rules}
 use Rattle.writer.proofs.count.blocks.Goals as goal
 
 pub returns-then-l-le1 : goal.returns-then-l-le1

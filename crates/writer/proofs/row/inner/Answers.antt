@@ -1,10 +1,7 @@
-use Prim.Native.Nat.{◌+◌, ◌-◌, ◌*◌, ◌≤◌}
-use mathlib.Core.List.{◌++◌}
+use Prim.Native.Nat.{◌+◌, ◌*◌}
 use mathlib.Core.Path.{◌≡◌, refl, ◌∙◌}
 use native.Mathlib.Omega.{arith}
-use lib.ListN.{length, take, drop}
 use borrow.Author.Count.{falls}
-use Rattle.itable.specs.Table.{row}
 use Rattle.writer.specs.Internal.Children.{children}
 use Rattle.writer.proofs.Rows.{children_sized, row_next, inner_is, lent_length, unwritten}
 use Rattle.writer.proofs.row.inner.Goals as goal
@@ -17,7 +14,7 @@ pub fill-requires : goal.fill-requires
 fill-requires c = tt
 
 pub loop-k-smaller : goal.loop-k-smaller
-loop-k-smaller c =  falls _ _ c.loop-k-test.true
+loop-k-smaller c = falls _ _ c.loop-k-test.true
 
 pub loop-k-preserved : goal.loop-k-preserved
 unfolding children

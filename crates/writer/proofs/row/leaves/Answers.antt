@@ -1,8 +1,6 @@
-use Prim.Native.Nat.{◌+◌, ◌-◌, ◌*◌, ◌≤◌}
-use mathlib.Core.List.{◌++◌}
+use Prim.Native.Nat.{◌+◌, ◌*◌}
 use mathlib.Core.Path.{◌≡◌, refl, ◌∙◌}
 use native.Mathlib.Omega.{arith}
-use lib.ListN.{length, drop}
 use borrow.Author.Count.{falls}
 use Rattle.itable.specs.Table.{files, row}
 use Rattle.writer.proofs.Rows.{files_sized, row_next, leaf_is, lent_length}
@@ -16,7 +14,7 @@ pub fill-requires : goal.fill-requires
 fill-requires c = tt
 
 pub loop-k-smaller : goal.loop-k-smaller
-loop-k-smaller c =  falls _ _ c.loop-k-test.true
+loop-k-smaller c = falls _ _ c.loop-k-test.true
 
 pub loop-k-preserved : goal.loop-k-preserved
 unfolding files

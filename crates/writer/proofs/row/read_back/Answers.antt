@@ -1,8 +1,5 @@
-use Prim.Native.Nat.{◌-◌, ◌≤◌}
 use mathlib.Core.Path.{◌≡◌}
 use native.Mathlib.Omega.{arith}
-use lib.ListN.{length}
-use Rattle.writer.specs.Internal.Children.{ReadBack}
 use Rattle.writer.proofs.Children.{read_next}
 use Rattle.writer.proofs.row.read_back.Goals as goal
 
