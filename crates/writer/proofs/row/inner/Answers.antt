@@ -1,7 +1,6 @@
 use Prim.Native.Nat.{◌+◌, ◌*◌}
 use mathlib.Core.Path.{◌≡◌, refl, ◌∙◌}
 use native.Mathlib.Omega.{arith}
-use borrow.Author.Count.{falls}
 use Rattle.writer.specs.Internal.Children.{children}
 use Rattle.writer.proofs.Rows.{children_sized, row_next, inner_is, lent_length, unwritten}
 use Rattle.writer.proofs.row.inner.Goals as goal
@@ -12,9 +11,6 @@ loop-k-init c =
 
 pub fill-requires : goal.fill-requires
 fill-requires c = tt
-
-pub loop-k-smaller : goal.loop-k-smaller
-loop-k-smaller c = falls _ _ c.loop-k-test.true
 
 pub loop-k-preserved : goal.loop-k-preserved
 unfolding children

@@ -1,7 +1,6 @@
 use Prim.Native.Nat.{◌+◌, ◌*◌}
 use mathlib.Core.Path.{◌≡◌, refl, ◌∙◌}
 use native.Mathlib.Omega.{arith}
-use borrow.Author.Count.{falls}
 use Rattle.itable.specs.Table.{files, row}
 use Rattle.writer.proofs.Rows.{files_sized, row_next, leaf_is, lent_length}
 use Rattle.writer.proofs.row.leaves.Goals as goal
@@ -12,9 +11,6 @@ loop-k-init c = (omega arith, omega arith, omega arith, refl)
 
 pub fill-requires : goal.fill-requires
 fill-requires c = tt
-
-pub loop-k-smaller : goal.loop-k-smaller
-loop-k-smaller c = falls _ _ c.loop-k-test.true
 
 pub loop-k-preserved : goal.loop-k-preserved
 unfolding files
