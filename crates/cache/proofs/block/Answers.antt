@@ -1,5 +1,4 @@
 -- The part of a choice that is the definition's. There is no loop.
-use borrow.Author.Rules.{rules}
 use Rattle.cache.proofs.block.Goals as goal
 
 pub returns : goal.returns

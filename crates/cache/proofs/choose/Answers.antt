@@ -1,6 +1,5 @@
 -- The tests of the definition, in its order; each `return` has the first that fails, or the first part that fits.
 use mathlib.Core.Path.{sym, ◌∙◌}
-use borrow.Author.Rules.{rules}
 use Rattle.cache.proofs.Laws.{wrong_wanted, long_reply, long_cached, reply_fits, cached_fits, neither_fits}
 use Rattle.cache.proofs.choose.Goals as goal
 

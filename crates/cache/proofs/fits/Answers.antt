@@ -1,6 +1,5 @@
 -- An empty part is not there; any other is told by its hash.
 use mathlib.Core.Path.{◌∙◌}
-use borrow.Author.Rules.{rules}
 use Rattle.cache.proofs.Laws.{not_there, by_hash}
 use Rattle.cache.proofs.fits.Goals as goal
 

@@ -2,7 +2,6 @@
 use Prim.Native.Nat.{ℕ, ◌+◌}
 use mathlib.Core.Path.{◌≡◌, refl, ap}
 use native.Mathlib.Omega.{arith}
-use borrow.Author.Rules.{rules}
 use Rattle.refusal.proofs.Numbered.{numbered}
 use Rattle.cache.specs.Choose.{Choice}
 use Rattle.cache.proofs.part.Goals as goal
