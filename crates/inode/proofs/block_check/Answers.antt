@@ -2,7 +2,6 @@
 use native.Mathlib.Omega.{arith}
 use Rattle.inode.proofs.Laws.{hash_lent}
 use Rattle.inode.proofs.Calls.{inode_refused, index_refused, read_refused, read_accepted, block_stages, block_in_is}
-use borrow.Author.Rules.{rules}
 use Rattle.inode.proofs.block_check.Goals as goal
 
 pub returns-in-Refused : goal.returns-in-Refused

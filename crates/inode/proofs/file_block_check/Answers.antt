@@ -1,7 +1,6 @@
 -- The tests of bytes that a hash names, at the file block's length and place.
 use Rattle.itable.specs.Inode.{block_steps}
 use Rattle.inode.specs.Internal.Named.{named_steps}
-use borrow.Author.Rules.{rules}
 use Rattle.inode.proofs.file_block_check.Goals as goal
 
 pub returns : goal.returns

@@ -1,5 +1,4 @@
 -- One test.
-use borrow.Author.Tests.{not-true, not-false}
 use Rattle.inode.proofs.Laws.{malformed, form_passes}
 use Rattle.inode.proofs.form_check.Goals as goal
 

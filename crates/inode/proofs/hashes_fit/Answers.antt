@@ -1,8 +1,6 @@
 -- The kind, then the most blocks, then the hashes beyond the last block.
 use mathlib.Core.Path.{sym, ◌∙◌}
-use borrow.Author.Tests.{not-true, not-false}
 use Rattle.inode.proofs.Laws.{other_kind, its_kind, too_long, is_inode}
-use borrow.Author.Rules.{rules}
 use Rattle.inode.proofs.hashes_fit.Goals as goal
 
 pub returns-then-byte_at-kind : goal.returns-then-byte_at-kind

@@ -1,7 +1,6 @@
 -- The definition's test.
 use mathlib.Core.Path.{refl}
 use Rattle.itable.specs.Inode as inode
-use borrow.Author.Rules.{rules}
 use Rattle.inode.proofs.holds.Goals as goal
 
 pub returns : goal.returns

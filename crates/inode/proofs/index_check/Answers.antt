@@ -1,6 +1,5 @@
 -- The definition's one test.
 use Rattle.inode.proofs.Laws.{no_block, index_passes}
-use borrow.Author.Rules.{rules}
 use Rattle.inode.proofs.index_check.Goals as goal
 
 pub returns-then-file_blocks-k : goal.returns-then-file_blocks-k

@@ -1,7 +1,6 @@
 -- The tests of kind 6. There is no loop.
 use Rattle.itable.specs.Inode.{well_formed, inode_steps}
 use Rattle.inode.specs.Internal.Named.{named_steps, handle_steps, form_steps}
-use borrow.Author.Rules.{rules}
 use Rattle.inode.proofs.inode_check.Goals as goal
 
 pub returns : goal.returns

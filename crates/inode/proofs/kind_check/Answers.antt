@@ -3,7 +3,6 @@ use mathlib.Core.Path.{ap, ◌∙◌}
 use Rattle.refusal.specs.Order.{tried}
 use Rattle.inode.specs.Internal.Named.{named_steps, form_steps}
 use Rattle.inode.proofs.Laws.{wrong_handle, right_handle, first_refused, then_others}
-use borrow.Author.Rules.{rules}
 use Rattle.inode.proofs.kind_check.Goals as goal
 
 pub returns-then-handle-ne-HASH : goal.returns-then-handle-ne-HASH

@@ -1,6 +1,5 @@
 -- The three stages in the definition's order.
 use Rattle.inode.proofs.Calls.{inode_refused, index_refused, read_refused, read_accepted, large_stages, large_in}
-use borrow.Author.Rules.{rules}
 use Rattle.inode.proofs.large_block_check.Goals as goal
 
 pub returns-in-Refused : goal.returns-in-Refused

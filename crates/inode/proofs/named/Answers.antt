@@ -1,8 +1,6 @@
 -- The tests of the definition, in its order; each `return` has the first that fails.
 use mathlib.Core.Path.{sym, ◌∙◌}
-use borrow.Author.Tests.{not-true, not-false}
 use Rattle.inode.proofs.Laws.{other_size, other_hash, is_named}
-use borrow.Author.Rules.{rules}
 use Rattle.inode.proofs.named.Goals as goal
 
 pub returns-then-b-size : goal.returns-then-b-size

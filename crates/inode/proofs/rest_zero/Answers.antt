@@ -1,6 +1,5 @@
 -- The bytes from hash m up to the last hash's end.
 use Rattle.inode.proofs.Laws.{rest_tested}
-use borrow.Author.Rules.{rules}
 use Rattle.inode.proofs.rest_zero.Goals as goal
 
 pub returns : goal.returns

@@ -5,7 +5,6 @@ use Rattle.itable.specs.Inode.{hash_at, file_length}
 use Rattle.itable.specs.LargeInode.{indirect_formed, indirect_steps}
 use Rattle.inode.specs.Internal.Named.{named_steps, form_steps}
 use Rattle.inode.proofs.Laws.{first_refused, then_others}
-use borrow.Author.Rules.{rules}
 use Rattle.inode.proofs.large.indirect_check.Goals as goal
 
 pub returns-in-Refused : goal.returns-in-Refused

@@ -4,7 +4,6 @@ use mathlib.Core.Path.{ap, ◌∙◌}
 use Rattle.itable.specs.Inode.{file_blocks, rest_zero}
 use Rattle.itable.specs.LargeInode.{indirect_formed}
 use Rattle.inode.proofs.Laws.{other_kind, its_kind}
-use borrow.Author.Rules.{rules}
 use Rattle.inode.proofs.large.indirect_formed.Goals as goal
 
 pub returns-then-byte_at-ne-INDIRECT_KIND : goal.returns-then-byte_at-ne-INDIRECT_KIND

@@ -6,7 +6,6 @@ use Rattle.inode.specs.Internal.Named.{form_steps}
 use Rattle.inode.specs.Internal.Fitting.{kind_steps}
 use Rattle.inode.proofs.Laws.{first_refused, then_others}
 use Rattle.inode.proofs.LargeLaws.{large_inode}
-use borrow.Author.Rules.{rules}
 use Rattle.inode.proofs.large.inode_check.Goals as goal
 
 pub returns-in-Refused : goal.returns-in-Refused

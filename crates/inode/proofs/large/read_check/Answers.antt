@@ -4,7 +4,6 @@ use native.Mathlib.Omega.{arith}
 use Rattle.itable.specs.LargeInode.{indirect_steps}
 use Rattle.inode.proofs.Laws.{hash_lent, first_refused, then_others}
 use Rattle.inode.proofs.LargeLaws.{given, not_given, direct_read, indirect_read, indirect_in}
-use borrow.Author.Rules.{rules}
 use Rattle.inode.proofs.large.read_check.Goals as goal
 
 pub returns-then-indirect-ne0 : goal.returns-then-indirect-ne0

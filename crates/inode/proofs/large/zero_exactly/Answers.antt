@@ -1,7 +1,6 @@
 -- Zero is due, or a hash.
 use mathlib.Core.Path.{sym, ◌∙◌}
 use Rattle.inode.proofs.LargeLaws.{zero_due, hash_due}
-use borrow.Author.Rules.{rules}
 use Rattle.inode.proofs.large.zero_exactly.Goals as goal
 
 pub returns-then-holds : goal.returns-then-holds
