@@ -1,5 +1,5 @@
--- "Without copying": what is handed back is one of the lent slices itself, and not only equal to it. A reference to a slice (`RefT`) is where it
--- points, `ptr`, and the elements there, `now`, with the name under which the logic follows them.
+-- "Without copying": what is handed back is one of the lent slices itself, and not only equal to it. A reference to a slice (`Bor`) is where it
+-- points, `ref_ptr`, and the elements there, `now`, with the name under which the logic follows them.
 use Rattle.std.specs.Prelude.{ℕ, List, [], ◌≡◌}
 use Rattle.std.specs.Borrow.{Bor}
 use Rattle.refusal.specs.Answer.{Answer, accepted, refused}
