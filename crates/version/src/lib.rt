@@ -25,7 +25,7 @@ pub const HANDLE: usize = 2;
 pub const COUNTS: usize = 34;
 
 // A version structure: owner, i-handle, and how many operations of each user it counts.
-#[derive(Drop)]
+#[derive(Clone, Copy)]
 pub struct Version {
     pub owner: u8,
     pub handle: [u8; 32],

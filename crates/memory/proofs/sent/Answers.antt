@@ -1,4 +1,5 @@
 -- Tests that refuse are the definition's; where they pass, a pending file's state is set, and any other file stays.
+use native.Mathlib.Omega.{arith}
 use borrow.Author.Tests.{eqb-true}
 use Rattle.refusal.proofs.Stage.{hands_on, goes_on_to, gives_result}
 use Rattle.memory.proofs.Judged.{was_long}
@@ -14,6 +15,11 @@ returns-then-not-pending c =
     gives_result _ _
     (goes_on_to _ _ (sent_due _ _ _ _ c.formed.ensures) c.judge-c.result c.judge-c.ensures (rw c.in-Passed.is))
     (sent_kept _ _ c.pending.ensures c.if-not-pending.true)
+
+pub slice_bounds-clear-end : goal.slice_bounds-clear-end
+slice_bounds-clear-end c =
+    let j = c.judge-c in
+    let l = eqb-true _ 100 (was_long _ _ _ _ j.result j.ensures c.in-Passed.is) in omega (arith, l)
 
 pub returns : goal.returns
 returns c =
