@@ -1,0 +1,23 @@
+use Prim.Native.Nat.{ℕ, ◌≤◌, ◌<◌, ◌-◌}
+use mathlib.Core.Bool.{not, false}
+use mathlib.Core.Path.{◌≡◌, sym, ap, ◌∙◌}
+use native.Mathlib.Omega.{arith}
+use Rattle.protocol.specs.List.{well_placed}
+use Rattle.search.proofs.Search.{find_first, find_last, span_more}
+use Rattle.client.proofs.forms.first_misplaced.Goals as goal
+
+pub loop-i-init : goal.loop-i-init
+loop-i-init c = (omega arith, λ m h l. absurd (omega arith))
+
+pub returns-then-not-well_placed : goal.returns-then-not-well_placed
+returns-then-not-well_placed c =
+    let l = c.loop-i in
+    sym (find_first _ _ _ (omega arith) l.invariant.1 (ap not (sym c.well_placed.ensures ∙ c.if-not-well_placed.true)))
+
+pub loop-i-preserved : goal.loop-i-preserved
+loop-i-preserved c =
+    let l = c.loop-i in
+    (omega arith, span_more _ _ l.invariant.1 (ap not (sym c.well_placed.ensures ∙ c.if-not-well_placed.false)))
+
+pub returns : goal.returns
+returns c = sym (find_last _ _ (λ m h l. c.loop-i.invariant.1 m h (omega arith)))

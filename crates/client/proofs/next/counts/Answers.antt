@@ -1,0 +1,33 @@
+use Prim.Native.Nat.{ℕ, ◌+◌, ◌≤◌, ◌<◌, ◌-◌}
+use mathlib.Core.Path.{◌≡◌, refl, sym, ap, ◌∙◌}
+use native.Mathlib.Omega.{arith}
+use borrow.Author.Rules.{rules}
+use lib.ListN.{length, get_or, length-set}
+use Rattle.protocol.specs.Version.{count}
+use Rattle.protocol.specs.List.{records, record_at}
+use Rattle.client.proofs.Tally.{own_from, none_passed, one_passed, all_passed}
+use Rattle.client.proofs.next.counts.Goals as goal
+
+pub loop-i-init : goal.loop-i-init
+loop-i-init c = (omega arith, refl, none_passed _ c.requires.list_value)
+
+pub bounds-counts-v : goal.bounds-counts-v
+bounds-counts-v c =
+    omega (arith, c.owner-v.ensures, c.requires.by_index (c.loop-i.i - 1) (omega arith))
+
+pub loop-i-preserved : goal.loop-i-preserved
+loop-i-preserved c =
+    let list = c.args.list.now in
+    let i = c.loop-i.i - 1 in
+    let e : c.loop-i.i ≡ i + 1 = omega arith in (
+      omega arith,
+      simp length-set c.loop-i.invariant.1,
+      one_passed list c.loop-i.counts i _ _ (omega arith) c.loop-i.invariant.1 (sym c.owner-v.ensures)
+          (omega (arith, c.owner-v.ensures, c.requires.by_index i (omega arith)))
+          (c.own_count.ensures ∙ ap (count (record_at list i)) (sym c.owner-v.ensures)) (rw e at c.loop-i.invariant.2),
+    )
+
+pub returns : goal.returns
+returns c =
+    let z : c.loop-i.i ≡ 0 = omega arith in
+    all_passed _ _ _ c.loop-i.counts _ c.loop-i.invariant.1 (omega arith) (ap (◌+ 1) c.count.ensures) (rw z at c.loop-i.invariant.2)

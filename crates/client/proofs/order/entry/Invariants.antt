@@ -1,0 +1,18 @@
+-- The first record of this owner.
+-- The invariant: the records passed are other owners'.
+use Prim.Native.Nat.{ℕ, ◌≤◌, ◌<◌, ◌-◌}
+use mathlib.Core.Bool.{false}
+use mathlib.Core.Path.{◌≡◌, sym, ◌∙◌}
+use native.Mathlib.Omega.{arith}
+use borrow.Author.Tests.{eq-eqb, ne_eqb}
+use lib.Dec.{eqb}
+use Rattle.protocol.specs.Version.{owner}
+use Rattle.protocol.specs.List.{record_at}
+use Rattle.search.proofs.Search.{find_first, find_last, span_more}
+use Rattle.client.proofs.order.entry.Given as goal
+
+abbrev pub invariant-loop-i : goal.invariant-loop-i
+invariant-loop-i l = (l.i ≤ l.n) × ((m : ℕ) → 0 ≤ m → m < l.i → eqb (owner (record_at l.list m)) l.user ≡ false)
+
+abbrev pub decreases-loop-i : goal.decreases-loop-i
+decreases-loop-i l = l.n - l.i

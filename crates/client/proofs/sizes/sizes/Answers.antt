@@ -1,0 +1,44 @@
+-- Each return but the last shows the condition of its refusal to be false; the last shows both conditions.
+use mathlib.Core.Logic.{inl, inr}
+use mathlib.Core.Path.{refl, sym}
+use native.Mathlib.Omega.{arith}
+use borrow.Author.Rules.{rules}
+use borrow.Author.Tests.{not-true, not-false}
+use Rattle.search.proofs.Bool.{not_both}
+use Rattle.client.proofs.Lengths.{sizes_mean}
+use Rattle.client.proofs.sizes.sizes.Goals as goal
+
+pub returns-then-not-is_user : goal.returns-then-not-is_user
+returns-then-not-is_user c =
+    sym ((sizes_mean _ _ _ _ _).refuses (inl (λ f. not_both (c.is_user.ensures.1 f) (c.if-not-is_user.true), refl, refl, refl)))
+
+pub returns-then-records-list : goal.returns-then-records-list
+returns-then-records-list c =
+    sym
+    ((sizes_mean _ _ _ _ _).refuses
+    (inr (c.is_user.ensures.0 (c.if-not-is_user.false), (λ f. omega (arith, f.whole), refl, refl, refl))))
+
+pub returns-then-users-records : goal.returns-then-users-records
+returns-then-users-records c =
+    sym
+    ((sizes_mean _ _ _ _ _).refuses
+    (inr (c.is_user.ensures.0 (c.if-not-is_user.false), (λ f. omega (arith, f.at_most), refl, refl, refl))))
+
+pub returns-then-marks-records : goal.returns-then-marks-records
+returns-then-marks-records c =
+    sym
+    ((sizes_mean _ _ _ _ _).refuses
+    (inr (c.is_user.ensures.0 (c.if-not-is_user.false), (λ f. omega (arith, f.one_mark_each), refl, refl, refl))))
+
+pub returns : goal.returns
+returns c =
+    sym
+    ((sizes_mean _ _ _ _ _).accepts (
+      c.is_user.ensures.0 (c.if-not-is_user.false),
+      record {
+        none_or_one = inl refl;
+        whole = omega arith;
+        at_most = omega arith;
+        one_mark_each = omega arith;
+      },
+    ))
