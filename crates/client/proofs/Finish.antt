@@ -1,13 +1,13 @@
 -- The stages one after the other: a stage's refusal is that of the whole check, and where stages have passed their conditions hold.
 use Prim.Native.Nat.{ℕ, ◌≤◌, ◌<◌}
-use mathlib.Core.Bool.{Bool, true}
+use mathlib.Core.Bool.{true}
 use mathlib.Core.List.{List, []}
 use mathlib.Core.Path.{◌≡◌, refl, sym, ap, ◌∙◌}
 use native.Mathlib.Omega.{arith}
 use lib.Dec.{eqb}
 use lib.ListN.{length}
 use borrow.Author.Tests.{eqb-true}
-use Rattle.refusal.specs.Answer.{Answer, accepted}
+use Rattle.refusal.specs.Answer.{Answer}
 use Rattle.refusal.specs.Order.{in_order, tried}
 use Rattle.refusal.specs.Refusal.{refusal, said}
 use Rattle.refusal.specs.declared.Check.{Check}

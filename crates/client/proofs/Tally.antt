@@ -4,7 +4,7 @@ use Prim.Native.Nat.{ℕ, suc, ◌+◌, ◌*◌, ◌-◌, ◌<◌}
 use mathlib.Core.Bool.{Bool}
 use mathlib.Core.List.{List, []}
 use mathlib.Core.Logic.{⊎_elim}
-use mathlib.Core.Path.{◌≡◌, sym, ap, ◌∙◌}
+use mathlib.Core.Path.{◌≡◌, sym, ◌∙◌}
 use native.Mathlib.Omega.{arith}
 use borrow.Author.Tests.{eqb-true, eqb-false}
 use lib.Dec.{eqb}
@@ -13,7 +13,6 @@ use lib.Seq.{get_or-set_same, get_or-set_other, ext_get_or}
 use Rattle.search.specs.Search.{find}
 use Rattle.search.proofs.Bool.{bool_cases}
 use Rattle.search.proofs.Search.{find_at}
-use Rattle.layout.specs.Bytes.{values}
 use Rattle.layout.proofs.Bytes.{four_past}
 use Rattle.layout.proofs.Parts.{part_past}
 use Rattle.layout.proofs.Values.{length_values, value_at}

@@ -1,6 +1,6 @@
 -- What the check tells: a refusal with zeros, or the third stage's verdict, with the bytes that are held where it is "send again".
 use Prim.Native.Nat.{ℕ, ◌≤◌}
-use mathlib.Core.Bool.{Bool, true, false, not, ◌&&◌}
+use mathlib.Core.Bool.{Bool, true, not, ◌&&◌}
 use mathlib.Core.List.{List, [], ◌∷◌, ◌++◌, append-nil}
 use mathlib.Core.Logic.{⊎_elim}
 use mathlib.Core.Path.{◌≡◌, refl, sym, ap, ◌∙◌}
@@ -17,7 +17,7 @@ use Rattle.refusal.specs.Refusal.{refusal}
 use Rattle.refusal.specs.declared.Refusal.{Refusal}
 use Rattle.refusal.proofs.Numbered.{numbered}
 use Rattle.refusal.proofs.Order.{passed}
-use Rattle.protocol.specs.Version.{size, count}
+use Rattle.protocol.specs.Version.{count}
 use Rattle.protocol.specs.Check.{current, next_counts, order_steps}
 use Rattle.protocol.specs.MemoryFile.{file_size, state, held, Verdict as Due, next, again}
 use Rattle.protocol.proofs.FileForm.{held_behind, held_length}

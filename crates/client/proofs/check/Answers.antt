@@ -1,16 +1,8 @@
 -- The stages one after the other: each refusal is handed on as it is, and the third one's answer is the check's, with the bytes that are
 -- held copied where they are to be sent again.
-use Prim.Native.Nat.{ℕ, ◌*◌, ◌≤◌, ◌<◌}
 use mathlib.Core.Path.{◌≡◌}
-use lib.Dec.{eqb}
-use lib.ListN.{length}
-use Rattle.protocol.specs.Version.{owner}
-use Rattle.protocol.specs.List.{records, record_at}
-use Rattle.protocol.specs.MemoryFile.{state, held, check_file}
-use Rattle.client.specs.Internal.Stages.{goes_on}
 use Rattle.client.proofs.Finish.{sizes_refuse, sized, small, given_refuse, long, forms_refuse, owned, order_answers}
 use Rattle.client.proofs.Told.{at_most, tells_verdict, tells_again}
-use borrow.Author.Rules.{rules}
 use Rattle.client.proofs.check.Goals as goal
 use mathlib.Core.List.{[], ◌∷◌}
 use mathlib.Core.Logic.{inl, inr}
@@ -61,8 +53,8 @@ pub returns-in_default-verdict : goal.returns-in_default-verdict
 returns-in_default-verdict c =
     let l = long _ _ _ _ _ c.sizes-s.result c.sizes-s.ensures c.in_default.is c.given-g.result c.given-g.ensures c.in_default-g.is in
     let d =
-        order_answers _ _ _ _ _ c.sizes-s.result c.sizes-s.ensures c.in_default.is c.given-g.result c.given-g.ensures c.in_default-g.is
-        c.forms-f.result c.forms-f.ensures c.in_default-f.is in
+    order_answers _ _ _ _ _ c.sizes-s.result c.sizes-s.ensures c.in_default.is c.given-g.result c.given-g.ensures c.in_default-g.is
+    c.forms-f.result c.forms-f.ensures c.in_default-f.is in
     tells_verdict _ _ l c.held-held.ensures _ _ d _ c.pending.ensures _ _ c.order-o.ensures (not_again _ c.in_default-verdict.not-Again)
 
 pub copy-requires : goal.copy-requires
@@ -74,6 +66,6 @@ pub returns : goal.returns
 returns c =
     let l = long _ _ _ _ _ c.sizes-s.result c.sizes-s.ensures c.in_default.is c.given-g.result c.given-g.ensures c.in_default-g.is in
     let d =
-        order_answers _ _ _ _ _ c.sizes-s.result c.sizes-s.ensures c.in_default.is c.given-g.result c.given-g.ensures c.in_default-g.is
-        c.forms-f.result c.forms-f.ensures c.in_default-f.is in
+    order_answers _ _ _ _ _ c.sizes-s.result c.sizes-s.ensures c.in_default.is c.given-g.result c.given-g.ensures c.in_default-g.is
+    c.forms-f.result c.forms-f.ensures c.in_default-f.is in
     tells_again _ _ l c.held-held.ensures _ _ d _ c.pending.ensures _ _ c.order-o.ensures c.in-Again.is _ c.copy.ensures.copied

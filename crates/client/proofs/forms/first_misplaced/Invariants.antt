@@ -2,10 +2,8 @@
 -- The invariant: the records passed are.
 use Prim.Native.Nat.{ℕ, ◌≤◌, ◌<◌, ◌-◌}
 use mathlib.Core.Bool.{not, false}
-use mathlib.Core.Path.{◌≡◌, sym, ap, ◌∙◌}
-use native.Mathlib.Omega.{arith}
+use mathlib.Core.Path.{◌≡◌}
 use Rattle.protocol.specs.List.{well_placed}
-use Rattle.search.proofs.Search.{find_first, find_last, span_more}
 use Rattle.client.proofs.forms.first_misplaced.Given as goal
 
 abbrev pub invariant-loop-i : goal.invariant-loop-i

@@ -2,12 +2,9 @@
 -- The invariant: the marks passed are 1.
 use Prim.Native.Nat.{ℕ, ◌≤◌, ◌<◌, ◌-◌}
 use mathlib.Core.Bool.{not, false}
-use mathlib.Core.Path.{◌≡◌, sym, ap}
-use native.Mathlib.Omega.{arith}
-use borrow.Author.Tests.{eq-eqb, ne_eqb}
+use mathlib.Core.Path.{◌≡◌}
 use lib.Dec.{eqb}
 use lib.ListN.{length, get_or}
-use Rattle.search.proofs.Search.{find_first, find_last, span_more}
 use Rattle.client.proofs.forms.first_unmarked.Given as goal
 
 abbrev pub invariant-loop-i : goal.invariant-loop-i

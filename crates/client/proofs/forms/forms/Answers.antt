@@ -1,7 +1,6 @@
 -- The two tests, each over all that it looks at before the next.
 use native.Mathlib.Omega.{arith}
 use Rattle.client.proofs.Placed.{misplaced, unmarked, all_formed}
-use borrow.Author.Rules.{rules}
 use Rattle.client.proofs.forms.forms.Goals as goal
 
 pub returns-then-misplaced-count : goal.returns-then-misplaced-count

@@ -1,7 +1,5 @@
 -- Three tests: the record by itself, whether it is the first, and its owner against that of the record before.
-use borrow.Author.Tests.{not-true, not-false}
 use Rattle.client.proofs.Lent.{misformed, placed_first, placed_above}
-use borrow.Author.Rules.{rules}
 use Rattle.client.proofs.forms.well_placed.Goals as goal
 
 pub returns-then-not-well_formed : goal.returns-then-not-well_formed

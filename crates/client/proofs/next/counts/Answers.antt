@@ -1,11 +1,10 @@
-use Prim.Native.Nat.{ℕ, ◌+◌, ◌≤◌, ◌<◌, ◌-◌}
+use Prim.Native.Nat.{◌+◌, ◌-◌}
 use mathlib.Core.Path.{◌≡◌, refl, sym, ap, ◌∙◌}
 use native.Mathlib.Omega.{arith}
-use borrow.Author.Rules.{rules}
-use lib.ListN.{length, get_or, length-set}
+use lib.ListN.{length-set}
 use Rattle.protocol.specs.Version.{count}
-use Rattle.protocol.specs.List.{records, record_at}
-use Rattle.client.proofs.Tally.{own_from, none_passed, one_passed, all_passed}
+use Rattle.protocol.specs.List.{record_at}
+use Rattle.client.proofs.Tally.{none_passed, one_passed, all_passed}
 use Rattle.client.proofs.next.counts.Goals as goal
 
 pub loop-i-init : goal.loop-i-init

@@ -1,13 +1,10 @@
 -- Each record's own count goes to its owner's place, and at last the user's own next one.
 -- The invariant: at each user's place stands the own count of its first record among those passed.
-use Prim.Native.Nat.{ℕ, ◌+◌, ◌≤◌, ◌<◌, ◌-◌}
-use mathlib.Core.Path.{◌≡◌, refl, sym, ap, ◌∙◌}
-use native.Mathlib.Omega.{arith}
-use borrow.Author.Rules.{rules}
-use lib.ListN.{length, get_or, length-set}
-use Rattle.protocol.specs.Version.{count}
-use Rattle.protocol.specs.List.{records, record_at}
-use Rattle.client.proofs.Tally.{own_from, none_passed, one_passed, all_passed}
+use Prim.Native.Nat.{ℕ, ◌≤◌, ◌<◌}
+use mathlib.Core.Path.{◌≡◌}
+use lib.ListN.{length, get_or}
+use Rattle.protocol.specs.List.{records}
+use Rattle.client.proofs.Tally.{own_from}
 use Rattle.client.proofs.next.counts.Given as goal
 
 abbrev pub invariant-loop-i : goal.invariant-loop-i

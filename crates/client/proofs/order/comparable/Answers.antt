@@ -1,6 +1,5 @@
 -- What each answer says of the order. There is no loop.
 use Rattle.version.proofs.Match.{ordered_by}
-use borrow.Author.Rules.{rules}
 use Rattle.client.proofs.order.comparable.Goals as goal
 
 pub returns-in-Equal : goal.returns-in-Equal

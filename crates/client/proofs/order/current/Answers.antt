@@ -1,7 +1,6 @@
 -- Where the list has no record of the user the entry is no bytes; elsewhere the bytes are compared.
 use native.Mathlib.Omega.{arith}
 use Rattle.client.proofs.Lent.{no_entry, same_entry}
-use borrow.Author.Rules.{rules}
 use Rattle.client.proofs.order.current.Goals as goal
 
 pub returns-then-n-i : goal.returns-then-n-i

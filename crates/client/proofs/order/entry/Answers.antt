@@ -1,11 +1,6 @@
-use Prim.Native.Nat.{ℕ, ◌≤◌, ◌<◌, ◌-◌}
-use mathlib.Core.Bool.{false}
-use mathlib.Core.Path.{◌≡◌, sym, ◌∙◌}
+use mathlib.Core.Path.{sym, ◌∙◌}
 use native.Mathlib.Omega.{arith}
 use borrow.Author.Tests.{eq-eqb, ne_eqb}
-use lib.Dec.{eqb}
-use Rattle.protocol.specs.Version.{owner}
-use Rattle.protocol.specs.List.{record_at}
 use Rattle.search.proofs.Search.{find_first, find_last, span_more}
 use Rattle.client.proofs.order.entry.Goals as goal
 

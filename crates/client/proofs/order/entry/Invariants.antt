@@ -2,13 +2,10 @@
 -- The invariant: the records passed are other owners'.
 use Prim.Native.Nat.{ℕ, ◌≤◌, ◌<◌, ◌-◌}
 use mathlib.Core.Bool.{false}
-use mathlib.Core.Path.{◌≡◌, sym, ◌∙◌}
-use native.Mathlib.Omega.{arith}
-use borrow.Author.Tests.{eq-eqb, ne_eqb}
+use mathlib.Core.Path.{◌≡◌}
 use lib.Dec.{eqb}
 use Rattle.protocol.specs.Version.{owner}
 use Rattle.protocol.specs.List.{record_at}
-use Rattle.search.proofs.Search.{find_first, find_last, span_more}
 use Rattle.client.proofs.order.entry.Given as goal
 
 abbrev pub invariant-loop-i : goal.invariant-loop-i

@@ -1,7 +1,5 @@
 -- Pending, and then the two counts.
-use borrow.Author.Tests.{not-true, not-false}
 use Rattle.client.proofs.Lent.{not_pending, one_less}
-use borrow.Author.Rules.{rules}
 use Rattle.client.proofs.order.is_before.Goals as goal
 
 pub returns-then-not-pending : goal.returns-then-not-pending

@@ -1,7 +1,6 @@
 -- Where the list has no record of the user the entry is no bytes, and counts none; elsewhere the count is read.
 use native.Mathlib.Omega.{arith}
 use Rattle.client.proofs.Lent.{no_count, entry_count}
-use borrow.Author.Rules.{rules}
 use Rattle.client.proofs.order.listed_count.Goals as goal
 
 pub returns-then-n-i : goal.returns-then-n-i

@@ -1,9 +1,7 @@
 -- Two tests, the first with the one for "send again", and then the pairs against a structure of the next counts, which are handed back
 -- where these pass.
 use native.Mathlib.Omega.{arith}
-use borrow.Author.Tests.{not-true, not-false}
 use Rattle.client.proofs.ThirdStage.{is_again, not_current, last_version, values_next, pairs_refuse, pairs_pass}
-use borrow.Author.Rules.{rules}
 use Rattle.client.proofs.order.order.Goals as goal
 
 pub returns-then-is_before : goal.returns-then-is_before

@@ -1,12 +1,6 @@
-use Prim.Native.Nat.{ℕ, ◌≤◌, ◌<◌, ◌-◌}
-use mathlib.Core.Bool.{true}
-use mathlib.Core.Logic.{⊎_elim}
-use mathlib.Core.Path.{◌≡◌, ap, ◌∙◌}
+use mathlib.Core.Path.{ap, ◌∙◌}
 use native.Mathlib.Omega.{arith}
 use borrow.Author.Count.{below_more}
-use borrow.Author.Rules.{rules}
-use borrow.Author.Tests.{not-true, not-false}
-use Rattle.layout.specs.Bytes.{values}
 use Rattle.search.proofs.Search.{span_more}
 use Rattle.protocol.specs.Check.{ordered}
 use Rattle.version.specs.declared.Version.{Version}
@@ -57,18 +51,18 @@ returns-then-i-n c =
     λ new e.
     let lower = c.pairs.invariant.1 new e in
     elim c.pairs-test.branch [
-      else-pairs-test w ↦ absurd (omega arith)
-    | then-pairs-test+then-loop-j-test+then-not-comparable w ↦
-        let l = w.loop-j in
-        let high = ap (λ (v : Version). v.counts) (c.read_list-structures.ensures l.j w.loop-j-test.true) in
-        rw w.j-is
-        (apart (ordered list new) _ i l.j l.invariant.0 l.invariant.1 lower (l.invariant.2 new)
-        (compared _ new _ _ _ low _ _ w.loop-j-test.true high w.comparable.ensures ∙ w.if-not-comparable.true))
-    | then-pairs-test+else-loop-j-test+then-not-strictly_before w ↦
-        let l = w.loop-j in
-        rw w.j-is
-        (apart (ordered list new) _ i l.j l.invariant.0 l.invariant.1 lower (l.invariant.2 new)
-        (compared_new _ new _ _ _ low _ _ w.loop-j-test.false e w.strictly_before.ensures ∙ w.if-not-strictly_before.true))
+      | else-pairs-test w ↦ absurd (omega arith)
+      | then-pairs-test+then-loop-j-test+then-not-comparable w ↦
+          let l = w.loop-j in
+          let high = ap (λ (v : Version). v.counts) (c.read_list-structures.ensures l.j w.loop-j-test.true) in
+          rw w.j-is
+          (apart (ordered list new) _ i l.j l.invariant.0 l.invariant.1 lower (l.invariant.2 new)
+          (compared _ new _ _ _ low _ _ w.loop-j-test.true high w.comparable.ensures ∙ w.if-not-comparable.true))
+      | then-pairs-test+else-loop-j-test+then-not-strictly_before w ↦
+          let l = w.loop-j in
+          rw w.j-is
+          (apart (ordered list new) _ i l.j l.invariant.0 l.invariant.1 lower (l.invariant.2 new)
+          (compared_new _ new _ _ _ low _ _ w.loop-j-test.false e w.strictly_before.ensures ∙ w.if-not-strictly_before.true))
     ]
 
 pub returns : goal.returns

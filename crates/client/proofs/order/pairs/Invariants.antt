@@ -2,17 +2,9 @@
 -- The outer invariant: each structure passed is ordered with all after it. The inner one: structure i is ordered with those passed.
 use Prim.Native.Nat.{ℕ, ◌≤◌, ◌<◌, ◌-◌}
 use mathlib.Core.Bool.{true}
-use mathlib.Core.Logic.{⊎_elim}
-use mathlib.Core.Path.{◌≡◌, ap, ◌∙◌}
-use native.Mathlib.Omega.{arith}
-use borrow.Author.Count.{below_more}
-use borrow.Author.Rules.{rules}
-use borrow.Author.Tests.{not-true, not-false}
+use mathlib.Core.Path.{◌≡◌}
 use Rattle.layout.specs.Bytes.{values}
-use Rattle.search.proofs.Search.{span_more}
 use Rattle.protocol.specs.Check.{ordered}
-use Rattle.version.specs.declared.Version.{Version}
-use Rattle.client.proofs.Apart.{apart, together, compared, compared_new}
 use Rattle.client.proofs.order.pairs.Given as goal
 
 abbrev pub invariant-loop-j : goal.invariant-loop-j

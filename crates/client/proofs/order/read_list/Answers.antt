@@ -1,10 +1,6 @@
-use Prim.Native.Nat.{ℕ, ◌≤◌, ◌<◌, ◌-◌}
-use mathlib.Core.Path.{◌≡◌, refl}
+use mathlib.Core.Path.{refl}
 use native.Mathlib.Omega.{arith}
-use lib.ListN.{length, get_or, length-set}
-use Rattle.protocol.specs.List.{record_at}
-use Rattle.version.specs.Version.{fields}
-use Rattle.client.specs.Internal.Stages.{none}
+use lib.ListN.{length-set}
 use Rattle.client.proofs.Lent.{read_more}
 use Rattle.client.proofs.order.read_list.Goals as goal
 

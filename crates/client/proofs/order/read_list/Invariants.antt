@@ -1,13 +1,11 @@
 -- The records, read in a row.
 -- The invariant: those of the places passed are in place.
 use Prim.Native.Nat.{ℕ, ◌≤◌, ◌<◌, ◌-◌}
-use mathlib.Core.Path.{◌≡◌, refl}
-use native.Mathlib.Omega.{arith}
-use lib.ListN.{length, get_or, length-set}
+use mathlib.Core.Path.{◌≡◌}
+use lib.ListN.{length, get_or}
 use Rattle.protocol.specs.List.{record_at}
 use Rattle.version.specs.Version.{fields}
 use Rattle.client.specs.Internal.Stages.{none}
-use Rattle.client.proofs.Lent.{read_more}
 use Rattle.client.proofs.order.read_list.Given as goal
 
 abbrev pub invariant-loop-i : goal.invariant-loop-i

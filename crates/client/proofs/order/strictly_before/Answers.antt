@@ -1,6 +1,5 @@
 -- What each answer says of the order. There is no loop.
 use Rattle.version.proofs.Match.{before_by}
-use borrow.Author.Rules.{rules}
 use Rattle.client.proofs.order.strictly_before.Goals as goal
 
 pub returns-in-Equal : goal.returns-in-Equal

@@ -4,7 +4,6 @@ use mathlib.Core.List.{List}
 use mathlib.Core.Path.{ap, ◌∙◌}
 use Rattle.protocol.specs.Version.{owner}
 use Rattle.client.proofs.Lent.{lent}
-use borrow.Author.Rules.{rules}
 use Rattle.client.proofs.records.owner.Goals as goal
 
 pub returns : goal.returns

@@ -2,8 +2,6 @@
 use mathlib.Core.Logic.{inl, inr}
 use mathlib.Core.Path.{refl, sym}
 use native.Mathlib.Omega.{arith}
-use borrow.Author.Rules.{rules}
-use borrow.Author.Tests.{not-true, not-false}
 use Rattle.search.proofs.Bool.{not_both}
 use Rattle.client.proofs.Lengths.{sizes_mean}
 use Rattle.client.proofs.sizes.sizes.Goals as goal
