@@ -6,7 +6,7 @@
 // What leads to a block: the kind due there, 0 for the root; the number in the slot that names the
 // block, which the root has not; the bound below which its numbers stay, 0 where there is none; and
 // the block's hash.
-#[derive(Drop)]
+#[derive(Clone, Copy)]
 pub struct Link {
     pub due: u8,
     pub first: u64,

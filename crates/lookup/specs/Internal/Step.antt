@@ -24,7 +24,7 @@ abbrev pub following : Step → List ℕ → ℕ → ℕ → (ℕ → Answer Ent
 following (Ends e) b left d on = ending e b left d
 following (Leads j) b left d on = on j
 
--- What a well_formed_means block b says of i, whatever stands after it.
+-- What a well-formed block b says of i, whatever stands after it.
 pub record Searched (b : List ℕ) (i : ℕ) (r : Step) : Type 0 where
   pub says : (left d : ℕ) (on : ℕ → Answer Entry) → answer_at b i left (suc d) on ≡ following r b left d on
 
