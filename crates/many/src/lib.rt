@@ -35,7 +35,7 @@ pub enum Outcome {
 
 // What is known of a block: its index in the paths, and its hash. An index that no block has says
 // nothing.
-#[derive(Drop)]
+#[derive(Clone, Copy)]
 struct Known {
     at: usize,
     hash: [u8; 32],

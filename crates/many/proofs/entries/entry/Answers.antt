@@ -1,0 +1,22 @@
+-- The entry is what the block says: zeros in an inner block or where no slot of the leaf has the number, else 1 and the slot's value.
+-- There is no loop.
+use mathlib.Core.Path.{sym, ◌∙◌}
+use borrow.Author.Rules.{rules}
+use Rattle.many.proofs.Writing.{no_leaf, no_slot, in_slot}
+use Rattle.many.proofs.entries.entry.Goals as goal
+
+pub returns-then-kind-ne-LEAF : goal.returns-then-kind-ne-LEAF
+returns-then-kind-ne-LEAF c =
+    let a = c.args in
+    no_leaf a.b.now a.number (λ e. c.if-kind-ne-LEAF.true (c.kind.ensures ∙ e))
+
+pub returns-then-used-j : goal.returns-then-used-j
+returns-then-used-j c =
+    let a = c.args in
+    no_slot a.b.now a.number (sym c.kind.ensures ∙ c.if-kind-ne-LEAF.false) _ _ c.slot_of-j.ensures c.used.ensures c.if-used-j.true
+
+pub returns : goal.returns
+returns c =
+    let a = c.args in
+    in_slot a.b.now a.number (sym c.kind.ensures ∙ c.if-kind-ne-LEAF.false) _ _ c.slot_of-j.ensures c.used.ensures _ _
+    c.if-used-j.false c.value-handle.ensures c.copy.ensures.copied
