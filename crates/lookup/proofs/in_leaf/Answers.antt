@@ -1,6 +1,5 @@
 -- A slot has the number, or none has.
 use Rattle.lookup.proofs.Laws.{leaf_here, leaf_nowhere}
-use borrow.Author.Rules.{rules}
 use Rattle.lookup.proofs.in_leaf.Goals as goal
 
 pub returns-then-j-used : goal.returns-then-j-used

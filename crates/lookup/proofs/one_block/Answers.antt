@@ -1,12 +1,11 @@
 -- The hash, the form and the search, in the order of the definition; each `return` has the test that fails.
 use mathlib.Core.Path.{sym, ◌∙◌}
-use borrow.Author.Tests.{not-true, not-false}
 use Rattle.lookup.proofs.Laws.{other_hash, not_formed, searched}
 use borrow.Author.Rules.{rules}
 use Rattle.lookup.proofs.one_block.Goals as goal
 
 pub returns-then-not-is_hash : goal.returns-then-not-is_hash
-returns-then-not-is_hash c =  other_hash _ (search rules) _ _ (sym c.is_hash.ensures ∙ c.if-not-is_hash.true)
+returns-then-not-is_hash c = other_hash _ (search rules) _ _ (sym c.is_hash.ensures ∙ c.if-not-is_hash.true)
 
 pub returns-then-not-well_formed : goal.returns-then-not-well_formed
 returns-then-not-well_formed c =

@@ -2,7 +2,6 @@
 use mathlib.Core.Path.{◌∙◌, ap}
 use Rattle.layout.proofs.Values.{values_whole}
 use Rattle.itable.specs.Block.{to_root}
-use borrow.Author.Rules.{rules}
 use Rattle.lookup.proofs.to_root.Goals as goal
 
 pub returns : goal.returns

@@ -1,9 +1,6 @@
-use Prim.Native.Nat.{◌≤◌, ◌+◌, ◌-◌, ◌*◌}
-use mathlib.Core.Path.{◌≡◌}
+use Prim.Native.Nat.{◌+◌, ◌-◌, ◌*◌}
 use native.Mathlib.Omega.{arith}
 use native.Mathlib.Nat.{sub-zero}
-use borrow.Author.Rules.{rules}
-use Rattle.itable.specs.Lookup.{consult}
 use Rattle.lookup.proofs.Along.{none_more, ends_here, leads_on}
 use Rattle.lookup.proofs.walk.Goals as goal
 
@@ -27,4 +24,4 @@ loop-d-preserved c =
     )
 
 pub returns : goal.returns
-returns c =  none_more _ _ _ _ _ c.loop-d-test.false c.loop-d.invariant.1 c.refused.ensures
+returns c = none_more _ _ _ _ _ c.loop-d-test.false c.loop-d.invariant.1 c.refused.ensures

@@ -1,12 +1,8 @@
 -- The lookup ends at a block, or goes on along the slot that it names; it ends with 9 where no block is left.
 -- The invariant: the lookup from block d on, to which the link leads, is that of the whole path.
-use Prim.Native.Nat.{◌≤◌, ◌+◌, ◌-◌, ◌*◌}
+use Prim.Native.Nat.{◌≤◌, ◌-◌}
 use mathlib.Core.Path.{◌≡◌}
-use native.Mathlib.Omega.{arith}
-use native.Mathlib.Nat.{sub-zero}
-use borrow.Author.Rules.{rules}
 use Rattle.itable.specs.Lookup.{consult}
-use Rattle.lookup.proofs.Along.{none_more, ends_here, leads_on}
 use Rattle.lookup.proofs.walk.Given as goal
 
 abbrev pub invariant-loop-d : goal.invariant-loop-d
