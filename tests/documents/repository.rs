@@ -4,6 +4,9 @@ use crate::source::{below, code, entries, text, words_of};
 use std::collections::{BTreeMap, BTreeSet, HashSet};
 use std::path::{Path, PathBuf};
 
+/// What is built, and reported on: the archive's crate and the program.
+pub const REPORTS: [&str; 2] = ["sundr_c", "desk"];
+
 pub struct Repository {
     pub root: PathBuf,
     /// The words of all sources' code.
@@ -64,10 +67,13 @@ fn declarations(name: &str, folder: &Path) -> Vec<(String, String)> {
     declarations
 }
 
-/// The public function that a line declares, as documents name it: a call for C by its name alone.
+/// The public function that a line declares, as documents name it: a call for C by its name alone, both where it is
+/// exported and where it is made.
 fn public<'a>(line: &str, path: &'a str) -> Option<&'a str> {
-    let for_c = || path.rsplit("::").next().filter(|_| line.starts_with("pub extern "));
-    line.starts_with("pub fn ").then_some(path).or_else(for_c)
+    if line.starts_with("pub extern ") || line.starts_with("pub fn sundr_") {
+        return path.rsplit("::").next();
+    }
+    line.starts_with("pub fn ").then_some(path)
 }
 
 /// The lines of all definitions or all proofs of a crate.
@@ -91,13 +97,13 @@ fn claims(root: &Path) -> BTreeMap<String, String> {
     fields.map(|(field, statement)| (field.to_string(), statement.trim().to_string())).collect()
 }
 
-/// The contracts in the kit's line `axioms CRATE: CRATE::NAME, CRATE::NAME (..)`, in its report on the archive and on
-/// the program.
+/// The contracts in the kit's lines `axioms CRATE: CRATE::NAME, CRATE::NAME (..)`, in its report on the archive and on
+/// the program. Where it reaches none of a crate's, the line has `none reached` for them.
 fn assumed(root: &Path) -> BTreeSet<String> {
-    let reports = ["sundr", "desk"].map(|name| text(&root.join(format!("target/log/{name}.say"))));
+    let reports = REPORTS.map(|name| text(&root.join(format!("target/log/{name}.say"))));
     let lines = reports.iter().flat_map(|report| report.lines()).filter_map(|line| line.strip_prefix("axioms "));
     let names = lines.filter_map(|line| line.split_once(": ")?.1.split(" (").next());
-    names.flat_map(|names| names.split(", ")).map(str::to_string).collect()
+    names.flat_map(|names| names.split(", ")).filter(|name| !name.starts_with("none reached ")).map(str::to_string).collect()
 }
 
 impl Repository {

@@ -3,7 +3,7 @@
 use crate::citation::Citation;
 use crate::header;
 use crate::markdown::Document;
-use crate::repository::Repository;
+use crate::repository::{Repository, REPORTS};
 use crate::source::text;
 use crate::Failures;
 use std::collections::HashSet;
@@ -82,7 +82,7 @@ fn cells(documents: &[Document]) -> Failures {
 /// it cites no other one is seen with its citations.)
 fn assumed(documents: &[Document], repository: &Repository) -> Failures {
     let mut failures = Vec::new();
-    for name in ["sundr", "desk"] {
+    for name in REPORTS {
         let report = format!("target/log/{name}.say");
         if !text(&repository.root.join(&report)).contains("\nlogic=proved ") {
             failures.push(format!("{report}: no report of a proved crate"));
