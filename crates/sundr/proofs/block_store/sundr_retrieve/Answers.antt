@@ -1,7 +1,6 @@
 -- The first result is the number that the layer gives, and the buffer is as the layer leaves it.
 use lib.ListN.{length}
 use Rattle.store.specs.Calls.{retrieve}
-use borrow.Author.Rules.{rules}
 use Rattle.refusal.proofs.Words.{told_by}
 use Rattle.sundr.proofs.block_store.sundr_retrieve.Goals as goal
 

@@ -1,6 +1,5 @@
 -- The first result is the number that the layer gives, and the store is as the layer leaves it.
 use Rattle.store.specs.Calls.{Unreferenced, unreference}
-use borrow.Author.Rules.{rules}
 use Rattle.refusal.proofs.Words.{told_by}
 use Rattle.sundr.proofs.block_store.sundr_unreference.Goals as goal
 

@@ -1,6 +1,4 @@
 -- The users first, and then the length.
-use borrow.Author.Rules.{rules}
-use borrow.Author.Tests.{not-true, not-false}
 use Rattle.search.proofs.Bool.{not_both}
 use Rattle.sundr.proofs.Counts.{no_user, other_room}
 use Rattle.sundr.proofs.check.no_room.Goals as goal

@@ -1,8 +1,7 @@
-use Prim.Native.Nat.{◌≤◌, ◌-◌}
 use mathlib.Core.Path.{◌≡◌, refl, sym, ◌∙◌}
 use native.Mathlib.Omega.{arith}
 use borrow.Author.Rules.{rules}
-use lib.ListN.{length, get_or, take, length-set}
+use lib.ListN.{get_or, length-set}
 use lib.Seq.{take_all}
 use Rattle.layout.specs.Bytes.{values}
 use Rattle.layout.proofs.Values.{filled}
@@ -14,11 +13,11 @@ unfolding values
 loop-v-init c = (omega arith, c.requires, refl)
 
 pub loop-v-preserved : goal.loop-v-preserved
-loop-v-preserved c =  (
-      omega arith,
-      simp length-set c.loop-v.invariant.1,
-      filled (λ w. get_or c.args.counts w 0) c.loop-v.out c.loop-v.v _ (omega arith) c.loop-v.invariant.2 refl,
-    )
+loop-v-preserved c = (
+  omega arith,
+  simp length-set c.loop-v.invariant.1,
+  filled (λ w. get_or c.args.counts w 0) c.loop-v.out c.loop-v.v _ (omega arith) c.loop-v.invariant.2 refl,
+)
 
 pub returns : goal.returns
 returns c =

@@ -1,15 +1,9 @@
 -- The counts one by one, from the first.
 -- The invariant: those passed are in place.
 use Prim.Native.Nat.{◌≤◌, ◌-◌}
-use mathlib.Core.Path.{◌≡◌, refl, sym, ◌∙◌}
-use native.Mathlib.Omega.{arith}
-use mir.Syntax.{w32}
-use borrow.Kind.Array.{e_int, good_length}
-use lib.ListN.{length, get_or, take, length-set}
-use lib.Seq.{take_all}
+use mathlib.Core.Path.{◌≡◌}
+use lib.ListN.{length, get_or, take}
 use Rattle.layout.specs.Bytes.{values}
-use Rattle.layout.proofs.Values.{filled}
-use Rattle.sundr.proofs.Counts.{all_values}
 use Rattle.sundr.proofs.check.put.Given as goal
 
 abbrev pub invariant-loop-v : goal.invariant-loop-v

@@ -2,7 +2,6 @@
 -- no loop.
 use mathlib.Core.Path.{sym, ap, ◌∙◌}
 use Rattle.cache.specs.Choice.{answer_of}
-use borrow.Author.Rules.{rules}
 use Rattle.sundr.specs.Choose.{part_number, part_length}
 use Rattle.refusal.proofs.Words.{accepted_word, refused_word}
 use Rattle.sundr.proofs.choose.sundr_block_choose.Goals as goal

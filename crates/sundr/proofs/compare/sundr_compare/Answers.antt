@@ -1,7 +1,6 @@
 -- The number is that of the answer, and the answer is the layer's. There is no loop.
 use mathlib.Core.Path.{ap, ◌∙◌}
 use Rattle.sundr.specs.Compare.{standing_number}
-use borrow.Author.Rules.{rules}
 use Rattle.sundr.proofs.compare.sundr_compare.Goals as goal
 
 pub returns : goal.returns

@@ -2,7 +2,6 @@
 use mathlib.Core.Path.{ap}
 use Rattle.itable.specs.Inode.{Span}
 use Rattle.inode.specs.Spanned.{answer_of}
-use borrow.Author.Rules.{rules}
 use Rattle.refusal.proofs.Words.{accepted_word, refused_word}
 use Rattle.sundr.proofs.file.spanned_word.Goals as goal
 

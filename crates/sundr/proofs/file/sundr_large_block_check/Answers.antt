@@ -2,7 +2,6 @@
 use mathlib.Core.Path.{ap, ◌∙◌}
 use Rattle.refusal.specs.Word.{answer_word}
 use Rattle.itable.specs.Inode.{Span}
-use borrow.Author.Rules.{rules}
 use Rattle.sundr.proofs.file.sundr_large_block_check.Goals as goal
 
 pub returns : goal.returns

@@ -1,7 +1,6 @@
 -- What a `match` arm knows is which variant the answer is, and the number of each is the law's. There is no loop.
 use mathlib.Core.Path.{ap}
 use Rattle.many.specs.Outcome.{answer_of}
-use borrow.Author.Rules.{rules}
 use Rattle.refusal.proofs.Words.{accepted_word}
 use Rattle.sundr.proofs.AnswerWord.{question_word}
 use Rattle.sundr.proofs.questions.outcome_word.Goals as goal

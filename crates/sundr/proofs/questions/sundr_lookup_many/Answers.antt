@@ -1,6 +1,5 @@
 -- The answer's number is that of the call's answer, and the buffer is as the call leaves it. There is no loop.
 use mathlib.Core.Path.{ap, ◌∙◌}
-use borrow.Author.Rules.{rules}
 use Rattle.refusal.specs.Word.{plain_word}
 use Rattle.sundr.proofs.questions.sundr_lookup_many.Goals as goal
 

@@ -5,7 +5,6 @@ use mathlib.Core.Path.{refl, ap}
 use lib.ListN.{get_or}
 use Rattle.sundr.specs.Server.{server_in}
 use Rattle.sundr.proofs.At.{read_back}
-use borrow.Author.Rules.{rules}
 use Rattle.sundr.proofs.server_bytes.read.Goals as goal
 
 pub returns : goal.returns

@@ -1,8 +1,7 @@
 -- The first byte is set, and the copy into all the others leaves nothing of what was there. There is no loop.
-use Prim.Native.Nat.{◌≤◌}
 use mathlib.Core.Path.{◌≡◌, ap, ◌∙◌}
 use native.Mathlib.Omega.{arith}
-use lib.ListN.{length, set, length-set}
+use lib.ListN.{length}
 use borrow.Author.Rules.{rules}
 use Rattle.sundr.specs.Server.{bytes_of}
 use Rattle.sundr.proofs.At.{room, written}

@@ -1,5 +1,4 @@
 -- The answer's number is that of the server's answer, and the list that the records stand in is as the server leaves it. There is no loop.
-use borrow.Author.Rules.{rules}
 use Rattle.refusal.proofs.Words.{gives_word}
 use Rattle.server.proofs.Lent.{gives_list}
 use Rattle.sundr.proofs.server_list.committed.Goals as goal

@@ -2,7 +2,6 @@
 use Prim.Native.Nat.{ℕ}
 use mathlib.Core.Path.{ap}
 use Rattle.server.specs.Listed.{listed_as}
-use borrow.Author.Rules.{rules}
 use Rattle.refusal.proofs.Words.{accepted_word, refused_word}
 use Rattle.sundr.proofs.server_list.listed_word.Goals as goal
 

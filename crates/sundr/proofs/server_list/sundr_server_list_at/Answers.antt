@@ -3,7 +3,6 @@ use Prim.Native.Nat.{ℕ}
 use mathlib.Core.Path.{refl, sym, ap, ◌∙◌}
 use Rattle.refusal.specs.Word.{answer_word}
 use Rattle.sundr.proofs.At.{listed_at_is, not_listed}
-use borrow.Author.Rules.{rules}
 use Rattle.sundr.proofs.server_list.sundr_server_list_at.Goals as goal
 
 pub returns-then-server-eq-SIZE : goal.returns-then-server-eq-SIZE

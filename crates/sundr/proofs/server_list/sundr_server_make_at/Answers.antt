@@ -3,7 +3,6 @@
 use mathlib.Core.Path.{refl, ◌∙◌}
 use Rattle.refusal.proofs.Words.{gives_word}
 use Rattle.sundr.proofs.At.{makes, makes_not, not_sized}
-use borrow.Author.Rules.{rules}
 use Rattle.sundr.proofs.server_list.sundr_server_make_at.Goals as goal
 
 pub returns-then-server-ne-SIZE : goal.returns-then-server-ne-SIZE

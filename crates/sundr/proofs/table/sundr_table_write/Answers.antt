@@ -1,7 +1,6 @@
 -- The answer's number is that of the writer's answer, and the buffer is as the writer leaves it. There is no loop.
 use Prim.Native.Nat.{ℕ}
 use mathlib.Core.Path.{ap, ◌∙◌}
-use borrow.Author.Rules.{rules}
 use Rattle.refusal.specs.Word.{answer_word}
 use Rattle.sundr.proofs.table.sundr_table_write.Goals as goal
 

@@ -2,7 +2,6 @@
 use Prim.Native.Nat.{ℕ}
 use mathlib.Core.Path.{ap}
 use Rattle.writer.specs.Written.{answer_of}
-use borrow.Author.Rules.{rules}
 use Rattle.refusal.proofs.Words.{accepted_word, refused_word}
 use Rattle.sundr.proofs.table.written_word.Goals as goal
 
