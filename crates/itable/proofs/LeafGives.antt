@@ -1,6 +1,6 @@
 -- What leads to a leaf leads to all of its numbers: each is at least the first, which is the number of the slot that led there, and below the bound,
 -- so that in every block above the same slot leads on.
-use Prim.Native.Nat.{ℕ, suc, ◌-◌, ◌≤◌, ◌<◌}
+use Prim.Native.Nat.{ℕ, suc, ◌≤◌, ◌<◌}
 use mathlib.Core.List.{List}
 use mathlib.Core.Logic.{◌⊎◌, inl, inr, ⊎_elim}
 use mathlib.Core.Path.{◌≡◌, refl, sym, ap, subst, ◌∙◌}

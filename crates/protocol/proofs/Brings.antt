@@ -1,18 +1,16 @@
 -- What a client's file holds is the structure that was written last, and every other counted one has a smaller own count.
 use Prim.Native.Nat.{ℕ, ◌≤◌}
-use mathlib.Core.Bool.{cond}
 use mathlib.Core.List.{List, [], ◌∷◌}
 use mathlib.Core.Logic.{◌⊎◌, inl, inr, ⊎_elim}
-use mathlib.Core.Path.{◌≡◌, refl, sym, ap, ◌∙◌}
+use mathlib.Core.Path.{◌≡◌, refl, sym, ◌∙◌}
 use native.Mathlib.Omega.{arith}
 use lib.Dec.{eqb}
 use borrow.Author.Tests.{eqb-true, eqb-false, eq-eqb}
 use Rattle.search.proofs.Bool.{bool_cases}
-use Rattle.refusal.specs.Answer.{accepted}
-use Rattle.protocol.specs.Version.{owner, count, own}
-use Rattle.protocol.specs.MemoryFile.{state, behind, held, none, again}
+use Rattle.protocol.specs.Version.{owner, count}
+use Rattle.protocol.specs.MemoryFile.{state, behind, held, none}
 use Rattle.protocol.specs.MemoryMeaning.{Stated, is_sent, is_pending, is_none}
-use Rattle.protocol.specs.History.{Call, Event, user_of, Write, nothing, writes, file_from, writing_from, Counted, file, answer, Signed}
+use Rattle.protocol.specs.History.{Event, user_of, Write, nothing, writes, file_from, writing_from, file, Signed}
 use Rattle.protocol.specs.Brings.{Brings, SendsSigned}
 use Rattle.protocol.proofs.List.{none_counted}
 use Rattle.protocol.proofs.FileForm.{held_behind}

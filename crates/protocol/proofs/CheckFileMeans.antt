@@ -1,28 +1,27 @@
 -- The check on a memory file means what CheckFileMeaning says: up to 4 its stages are those of the check, and two for the file; then it says
 -- "send again", or goes on with the check's stages.
-use Prim.Native.Nat.{ℕ, ◌+◌, ◌*◌, ◌≤◌, ◌<◌}
+use Prim.Native.Nat.{ℕ, ◌+◌, ◌≤◌, ◌<◌}
 use mathlib.Core.Bool.{Bool, true, false, not, cond, ◌&&◌}
-use mathlib.Core.List.{List, [], ◌∷◌, ◌++◌}
-use mathlib.Core.Logic.{◌⊎◌, ◌↔◌, inl, inr, ⊎_elim}
+use mathlib.Core.List.{List, [], ◌++◌}
+use mathlib.Core.Logic.{◌↔◌, inl, inr, ⊎_elim}
 use mathlib.Core.Path.{◌≡◌, refl, sym, ap, ◌∙◌}
 use native.Mathlib.Omega.{arith}
 use lib.Dec.{eqb}
-use lib.ListN.{length}
-use borrow.Author.Tests.{eqb-true, eq-eqb, not-true}
+use borrow.Author.Tests.{eqb-true, eq-eqb}
 use Rattle.search.proofs.Bool.{bool_cases, both_true, not_both}
 use Rattle.layout.proofs.Strings.{same_true}
 use Rattle.refusal.specs.Answer.{Answer, accepted, refused}
 use Rattle.refusal.specs.Order.{Step, in_order}
 use Rattle.refusal.proofs.Means.{Means, Stage, Either, Unless, AtFirst, AtFirstPair, means_accepted, means_refused, in_append, and_then_means, concludes, merged}
-use Rattle.protocol.specs.Version.{size, owner, count, own}
+use Rattle.protocol.specs.Version.{owner, count, own}
 use Rattle.protocol.specs.List.{records, record_at, entry}
 use Rattle.protocol.specs.Check.{current, size_steps, form_steps, order_steps}
-use Rattle.protocol.specs.MemoryFile.{state, behind, held, given_steps, sends_again, Verdict, next, again, check_file}
+use Rattle.protocol.specs.MemoryFile.{state, held, given_steps, sends_again, Verdict, next, again, check_file}
 use Rattle.protocol.specs.History.{Call, called_on}
 use Rattle.protocol.specs.Meaning.{Users, Sizes, Remembered, WellPlaced, Marked, Current, NotLast, Ordered, new_of, new_counts}
 use Rattle.protocol.specs.Meaning as Held
-use Rattle.protocol.specs.MemoryMeaning.{OwnFormed, Stated, is_sent, is_pending, is_none, Formed}
-use Rattle.protocol.specs.CheckFileMeaning.{FileSizes, ShowsBefore, SendsAgain, ToSizes, ToFormed, ToPlaced, ToMarked, ToCurrent, ToNotLast, AllConditions}
+use Rattle.protocol.specs.MemoryMeaning.{Stated, is_sent, is_pending, is_none, Formed}
+use Rattle.protocol.specs.CheckFileMeaning.{FileSizes, SendsAgain, ToSizes, ToFormed, ToMarked}
 use Rattle.protocol.specs.CheckFileMeaning.{Why, users, lengths, malformed, placed, unmarked, not_current, last, unordered, CheckFileMeans}
 use Rattle.protocol.proofs.List.{none_counted, entry_cases}
 use Rattle.protocol.proofs.Conditions.{both_intro, entry_at, current_means}

@@ -1,9 +1,8 @@
 -- The making step on a memory file means what CreateFileMeaning says: its stages are those of the making step, and two for the file.
 use Prim.Native.Nat.{ℕ}
-use mathlib.Core.List.{List, [], ◌∷◌, ◌++◌}
+use mathlib.Core.List.{List, [], ◌++◌}
 use mathlib.Core.Logic.{inl, inr, ⊎_elim}
 use mathlib.Core.Path.{◌≡◌, refl, sym, ap, ◌∙◌}
-use lib.ListN.{length}
 use Rattle.refusal.specs.Answer.{accepted}
 use Rattle.refusal.specs.Order.{Step, in_order}
 use Rattle.refusal.proofs.Means.{Means, Stage, Either, Unless, means_accepted, means_refused, in_append, and_then_means, concludes, merged}

@@ -1,6 +1,6 @@
 -- Laws of what a server's list holds: after a record replaces its owner's, that user's place is the record and every other place is as it
 -- was. A place whose own count is 0 holds nothing, so the own count held is that of the place either way.
-use Prim.Native.Nat.{ℕ, ◌+◌, ◌-◌, ◌*◌, ◌≤◌, ◌<◌}
+use Prim.Native.Nat.{ℕ, ◌+◌, ◌*◌, ◌≤◌, ◌<◌}
 use mathlib.Core.Bool.{Bool, true, false, cond}
 use mathlib.Core.List.{List, [], ◌∷◌}
 use mathlib.Core.Logic.{⊎_elim}

@@ -1,6 +1,6 @@
 -- The four calls on a memory file mean what MemoryMeaning says: the users, the lengths and the form, one after the other, whatever these are.
-use Prim.Native.Nat.{ℕ, zero, suc, ◌+◌}
-use mathlib.Core.Bool.{Bool, true, not, ◌&&◌, ◌||◌}
+use Prim.Native.Nat.{ℕ, zero, suc}
+use mathlib.Core.Bool.{Bool, true, not, ◌&&◌}
 use mathlib.Core.List.{List, [], ◌∷◌, ◌++◌, append-nil}
 use mathlib.Core.Logic.{◌⊎◌, ◌↔◌, inl, inr, ⊎_elim}
 use mathlib.Core.Path.{◌≡◌, refl, sym, ap, ◌∙◌}
@@ -12,12 +12,11 @@ use borrow.Author.Tests.{eqb-true, eqb-false, eq-eqb, ne_eqb, not-true}
 use Rattle.search.proofs.Bool.{both_true}
 use Rattle.refusal.specs.Answer.{Answer, accepted, refused, and_then}
 use Rattle.refusal.specs.Order.{Step, unless, in_order}
-use Rattle.refusal.proofs.Means.{Means, Stage, Either, Unless, in_append, and_then_means, concludes, test_means, exactly}
+use Rattle.refusal.proofs.Means.{Stage, Either, Unless, in_append, and_then_means, concludes, test_means, exactly}
 use Rattle.protocol.specs.Version.{size}
-use Rattle.protocol.specs.Check.{remembers}
-use Rattle.protocol.specs.MemoryFile.{file_size, state, behind, held, file_of, pending_of, sent_of, own_formed, formed, file_steps, over, back, back_into, sent, pend}
-use Rattle.protocol.specs.Meaning.{Users, Remembered}
-use Rattle.protocol.specs.MemoryMeaning.{OwnFormed, Formed, NotPending, Why, users, lengths, malformed, pending, Exactly}
+use Rattle.protocol.specs.MemoryFile.{file_size, state, behind, held, file_of, pending_of, sent_of, formed, file_steps, over, back, back_into, sent, pend}
+use Rattle.protocol.specs.Meaning.{Users}
+use Rattle.protocol.specs.MemoryMeaning.{Formed, NotPending, Why, users, lengths, malformed, pending, Exactly}
 use Rattle.protocol.specs.MemoryMeaning.{OverMeans, BackMeans, BackIntoMeans, PendMeans, SetSent, SentMeans}
 use Rattle.protocol.proofs.Conditions.{both_intro, no_bytes, none_or_one, remembers_means}
 use Rattle.protocol.proofs.CheckMeans.{users_stage}

@@ -1,23 +1,21 @@
 -- The file of what was remembered is formed exactly if that is remembered rightly, and holds just it; it is never pending.
-use Prim.Native.Nat.{ℕ, ◌+◌}
-use mathlib.Core.Bool.{Bool, true, false, not, cond, ◌&&◌}
+use Prim.Native.Nat.{ℕ}
+use mathlib.Core.Bool.{Bool, true, false, not, ◌&&◌}
 use mathlib.Core.List.{List, [], ◌∷◌}
 use mathlib.Core.Logic.{◌⊎◌, ⊎_elim}
 use mathlib.Core.Path.{◌≡◌, refl, sym, ap, ◌∙◌}
 use native.Mathlib.Omega.{arith}
-use lib.Dec.{eqb}
-use lib.ListN.{length, replicate}
+use lib.ListN.{length}
 use borrow.Author.Tests.{eq-eqb, ne_eqb}
 use Rattle.search.specs.Search.{find, every}
 use Rattle.search.proofs.Bool.{bool_cases}
 use Rattle.layout.specs.Strings.{zeros}
 use Rattle.refusal.specs.Answer.{Answer, refused}
 use Rattle.refusal.specs.Order.{in_order}
-use Rattle.protocol.specs.Version.{size, count}
-use Rattle.protocol.specs.List.{entry}
+use Rattle.protocol.specs.Version.{size}
 use Rattle.protocol.specs.Check.{remembers, current, size_steps, form_steps}
 use Rattle.protocol.specs.Create.{length_steps, count_steps, create}
-use Rattle.protocol.specs.MemoryFile.{file_size, state, held, formed, file_of, given_steps, sends_again, Verdict, check_file, create_file}
+use Rattle.protocol.specs.MemoryFile.{file_size, state, held, formed, file_of, given_steps, sends_again, check_file, create_file}
 use Rattle.protocol.specs.Meaning.{Remembered}
 use Rattle.protocol.specs.MemoryMeaning.{Formed}
 use Rattle.protocol.specs.Moved.{Moved}

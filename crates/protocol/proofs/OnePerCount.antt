@@ -1,12 +1,12 @@
 -- One structure for each own count, from any file: a whole write moves the file to the next own count, and nothing else moves it.
-use Prim.Native.Nat.{ℕ, ◌+◌, ◌≤◌, ◌<◌}
+use Prim.Native.Nat.{ℕ, ◌≤◌}
 use mathlib.Core.List.{List, [], ◌∷◌}
-use mathlib.Core.Logic.{inl, inr, ⊎_elim}
-use mathlib.Core.Path.{◌≡◌, refl, sym, ap, ◌∙◌}
+use mathlib.Core.Logic.{inl, ⊎_elim}
+use mathlib.Core.Path.{◌≡◌, sym, ap, ◌∙◌}
 use native.Mathlib.Omega.{arith}
 use Rattle.refusal.specs.Answer.{accepted}
 use Rattle.protocol.specs.Version.{owner, count, own}
-use Rattle.protocol.specs.MemoryFile.{file_size, held, none, file_of, over}
+use Rattle.protocol.specs.MemoryFile.{file_size, held, over}
 use Rattle.protocol.specs.History.{Making, Event, user_of, writes, file_from, writing_from, Counted}
 use Rattle.protocol.specs.Meaning.{Remembered}
 use Rattle.protocol.specs.OnePerCount.{Begins, OnePerCount}

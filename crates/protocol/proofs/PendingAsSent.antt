@@ -1,10 +1,9 @@
 -- A pending file and the sent one of the same structure are formed alike and hold the same; where the list shows it, neither is sent again.
-use mathlib.Core.Bool.{true, false, cond}
-use mathlib.Core.List.{List, ◌∷◌}
-use mathlib.Core.Path.{◌≡◌, refl, ◌∙◌}
+use mathlib.Core.Bool.{false}
+use mathlib.Core.List.{List}
+use mathlib.Core.Path.{◌≡◌, refl}
 use native.Mathlib.Omega.{arith}
 use Prim.Native.Nat.{ℕ}
-use lib.ListN.{length}
 use Rattle.layout.proofs.Strings.{same_refl}
 use Rattle.protocol.specs.List.{entry}
 use Rattle.protocol.specs.Check.{current}

@@ -1,9 +1,6 @@
 -- What a check on a file gave, the making step on it takes, and what is made is a well formed structure of the user, which pends.
-use Prim.Native.Nat.{ℕ}
-use mathlib.Core.List.{List, []}
-use mathlib.Core.Path.{◌≡◌, refl, ◌∙◌}
-use lib.ListN.{length}
-use Rattle.refusal.specs.Answer.{accepted}
+use mathlib.Core.List.{[]}
+use mathlib.Core.Path.{refl, ◌∙◌}
 use Rattle.protocol.specs.Version.{size}
 use Rattle.protocol.specs.Check.{size_steps}
 use Rattle.protocol.specs.MemoryFile.{file_size, held, pending_of, check_file}

@@ -1,15 +1,12 @@
 -- Moving over and back: what one writes, the other reads, as a formed file that is not pending is the file of what it holds.
-use Prim.Native.Nat.{ℕ, zero, suc, ◌+◌, ◌≤◌, ◌<◌}
+use Prim.Native.Nat.{ℕ, suc, ◌<◌}
 use mathlib.Core.List.{List, [], ◌∷◌}
-use mathlib.Core.Logic.{◌⊎◌, inl, inr, ⊎_elim}
 use mathlib.Core.Path.{◌≡◌, refl, sym, ap, ◌∙◌}
 use native.Mathlib.Omega.{arith}
 use lib.ListN.{length, get_or, replicate}
-use Rattle.refusal.specs.Answer.{accepted}
-use Rattle.protocol.specs.Version.{size, owner}
-use Rattle.protocol.specs.MemoryFile.{file_size, state, behind, held, file_of, over, back}
-use Rattle.protocol.specs.Meaning.{Users, Remembered}
-use Rattle.protocol.specs.MemoryMeaning.{OwnFormed, Stated, is_sent, is_pending, is_none, Formed, NotPending}
+use Rattle.protocol.specs.Version.{size}
+use Rattle.protocol.specs.MemoryFile.{file_size, held, file_of}
+use Rattle.protocol.specs.MemoryMeaning.{Stated, is_sent, is_pending, is_none, Formed, NotPending}
 use Rattle.protocol.specs.RoundTrips.{RoundTrips}
 use Rattle.protocol.proofs.FileForm.{held_none, held_behind, formed_remembered, held_length}
 use Rattle.protocol.proofs.MemoryMeans.{over_means, back_means}

@@ -1,9 +1,5 @@
-use Prim.Native.Nat.{◌+◌, ◌-◌, ◌*◌, ◌≤◌}
-use mathlib.Core.Path.{◌≡◌}
 use native.Mathlib.Omega.{arith}
-use lib.ListN.{length, take}
 use borrow.Author.Rules.{rules}
-use Rattle.itable.specs.Block.{size}
 use Rattle.itable.specs.Many.{total}
 use Rattle.many.proofs.Filled.{taken_next, too_few, all_taken}
 use Rattle.many.proofs.fills.Goals as goal

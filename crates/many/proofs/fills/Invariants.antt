@@ -2,12 +2,9 @@
 -- The invariant: what is left, and the blocks of the first q questions, are all the bytes.
 use Prim.Native.Nat.{◌+◌, ◌-◌, ◌*◌, ◌≤◌}
 use mathlib.Core.Path.{◌≡◌}
-use native.Mathlib.Omega.{arith}
 use lib.ListN.{length, take}
-use borrow.Author.Rules.{rules}
 use Rattle.itable.specs.Block.{size}
 use Rattle.itable.specs.Many.{total}
-use Rattle.many.proofs.Filled.{taken_next, too_few, all_taken}
 use Rattle.many.proofs.fills.Given as goal
 
 abbrev pub invariant-loop-q : goal.invariant-loop-q

@@ -1,14 +1,10 @@
-use Prim.Native.Nat.{◌-◌, ◌≤◌}
-use mathlib.Core.Path.{◌≡◌, refl, sym}
+use mathlib.Core.Path.{refl, sym}
 use native.Mathlib.Omega.{arith}
-use lib.ListN.{length, take}
 use borrow.Author.Count.{below_more}
-use borrow.Author.Rules.{rules}
 use Rattle.itable.specs.Many.{total}
 use Rattle.itable.proofs.Many.{total_next}
-use Rattle.many.specs.Internal.Known.{AllKnown}
 use Rattle.many.proofs.Along.{none_known}
-use Rattle.many.proofs.Asking.{AcceptedBefore, asked, within, some_block, all_asked, refused_at}
+use Rattle.many.proofs.Asking.{asked, within, some_block, all_asked, refused_at}
 use Rattle.many.proofs.judge.Goals as goal
 
 pub loop-q-init : goal.loop-q-init

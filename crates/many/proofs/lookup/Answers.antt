@@ -1,7 +1,7 @@
 -- The lengths are the definition's; then the questions are judged, and where all are accepted their answers are written. There is no loop.
 use mathlib.Core.Path.{ap}
-use denote.Enum.Declared.{tag_of}
 use borrow.Author.Rules.{rules}
+use denote.Enum.Declared.{tag_of}
 use Rattle.search.proofs.Bool.{not_both}
 use Rattle.many.specs.contracts.Outcome.{the_type}
 use Rattle.many.proofs.Answering.{wrong_length, handed_on, answered}
@@ -30,7 +30,7 @@ returns-in_default c =
 pub write-requires : goal.write-requires
 write-requires c =
     let s = c.sized.ensures.0 c.if-not-sized.false in
-    (s.count_each, s.filled, s.room_due, c.judge-outcome.ensures.counted c.in-Answered.is)
+    (s.count_each, s.filled, s.room_due, c.judge-outcome.ensures.counted (search rules))
 
 pub returns : goal.returns
 returns c =

@@ -1,6 +1,5 @@
 -- Each `return` has the test that fails, or that the last decides. There is no loop.
 use native.Mathlib.Omega.{arith}
-use borrow.Author.Rules.{rules}
 use Rattle.many.proofs.Lengths.{unfit, last_fits}
 use Rattle.many.proofs.sized.Goals as goal
 

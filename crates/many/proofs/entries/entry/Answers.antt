@@ -1,7 +1,6 @@
 -- The entry is what the block says: zeros in an inner block or where no slot of the leaf has the number, else 1 and the slot's value.
 -- There is no loop.
 use mathlib.Core.Path.{sym, ◌∙◌}
-use borrow.Author.Rules.{rules}
 use Rattle.many.proofs.Writing.{no_leaf, no_slot, in_slot}
 use Rattle.many.proofs.entries.entry.Goals as goal
 

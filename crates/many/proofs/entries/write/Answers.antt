@@ -1,12 +1,9 @@
-use Prim.Native.Nat.{◌-◌, ◌*◌, ◌≤◌}
-use mathlib.Core.Path.{◌≡◌, refl, ◌∙◌}
+use mathlib.Core.Path.{refl, ◌∙◌}
 use native.Mathlib.Omega.{arith}
-use lib.ListN.{length, take}
 use borrow.Author.Rules.{rules}
-use Rattle.itable.specs.Many.{total, entry_size}
+use Rattle.itable.specs.Many.{total}
 use Rattle.itable.specs.Internal.Many.{entries_from}
 use Rattle.itable.proofs.Many.{total_next, total_front}
-use Rattle.many.specs.Internal.Judged.{entry_to}
 use Rattle.many.proofs.Writing.{written_next, written_all}
 use Rattle.many.proofs.entries.write.Goals as goal
 

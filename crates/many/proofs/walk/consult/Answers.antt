@@ -1,8 +1,6 @@
 -- The form, then the slot that leads on, then whether blocks are left; each `return` has the law of its case. There is no loop.
 use mathlib.Core.Path.{sym, ◌∙◌}
-use borrow.Author.Tests.{not-true, not-false}
 use Rattle.many.proofs.Steps.{not_formed, leads_on, over, known_here}
-use borrow.Author.Rules.{rules}
 use Rattle.many.proofs.walk.consult.Goals as goal
 
 pub returns-then-not-well_formed : goal.returns-then-not-well_formed

@@ -3,7 +3,6 @@ use Prim.Native.Nat.{◌+◌, ◌-◌, ◌*◌}
 use mathlib.Core.Path.{◌≡◌, sym, ◌∙◌}
 use native.Mathlib.Omega.{arith}
 use Rattle.many.proofs.Hashes.{known_hash}
-use borrow.Author.Rules.{rules}
 use Rattle.many.proofs.walk.has_hash.Goals as goal
 
 pub returns-then-equal : goal.returns-then-equal

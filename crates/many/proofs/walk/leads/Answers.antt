@@ -1,7 +1,6 @@
 -- A leaf leads nowhere, and of another block the last slot whose number is at most the i-number leads on.
 use mathlib.Core.Path.{sym, ◌∙◌}
 use borrow.Author.Tests.{eq-eqb, ne_eqb}
-use borrow.Author.Rules.{rules}
 use Rattle.itable.specs.Internal.Many.{leads_at}
 use Rattle.many.proofs.walk.leads.Goals as goal
 

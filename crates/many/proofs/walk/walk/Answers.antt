@@ -1,14 +1,10 @@
-use Prim.Native.Nat.{◌≤◌, ◌+◌, ◌-◌, ◌*◌}
+use Prim.Native.Nat.{◌+◌, ◌-◌, ◌*◌}
 use mathlib.Core.Path.{◌≡◌, sym, ◌∙◌}
 use native.Mathlib.Nat.{sub-zero}
 use native.Mathlib.Omega.{arith}
-use lib.ListN.{length, length-set}
-use borrow.Author.Tests.{not-true, not-false}
+use lib.ListN.{length-set}
 use borrow.Author.Rules.{rules}
 use Rattle.layout.proofs.Strings.{same_true}
-use Rattle.itable.specs.Lookup.{consult}
-use Rattle.many.specs.Internal.Known.{AllKnown}
-use Rattle.many.specs.Internal.Walk.{path_from}
 use Rattle.many.proofs.Hashes.{block_hash}
 use Rattle.many.proofs.Along.{known_more, none_more, wrong_hash, ends_here, leads_on}
 use Rattle.many.proofs.walk.walk.Goals as goal
@@ -17,7 +13,7 @@ pub loop-d-init : goal.loop-d-init
 loop-d-init c = (omega arith, search rules, search rules, rw sub-zero)
 
 pub has_hash-requires : goal.has_hash-requires
-has_hash-requires c =  (omega arith, c.loop-d.invariant.2 c.loop-d.d (omega arith))
+has_hash-requires c = (omega arith, c.loop-d.invariant.2 c.loop-d.d (omega arith))
 
 pub returns-then-not-has_hash : goal.returns-then-not-has_hash
 returns-then-not-has_hash c =

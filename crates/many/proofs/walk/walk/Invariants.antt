@@ -1,23 +1,16 @@
 -- Each block is the last one consulted at its depth, or it is hashed; the lookup ends at it or goes on along the slot that it names, and ends with 9
 -- where no block is left.
 -- The invariant: the lookup from block d on, to which the link leads, is that of the whole path; and all that is known holds.
-use Prim.Native.Nat.{◌≤◌, ◌+◌, ◌-◌, ◌*◌}
-use mathlib.Core.Path.{◌≡◌, sym, ◌∙◌}
-use native.Mathlib.Nat.{sub-zero}
-use native.Mathlib.Omega.{arith}
-use lib.ListN.{length, length-set}
-use borrow.Author.Tests.{not-true, not-false}
-use borrow.Author.Rules.{rules}
-use Rattle.layout.proofs.Strings.{same_true}
+use Prim.Native.Nat.{◌≤◌, ◌-◌}
+use mathlib.Core.Path.{◌≡◌}
+use lib.ListN.{length}
 use Rattle.itable.specs.Lookup.{consult}
 use Rattle.many.specs.Internal.Known.{AllKnown}
 use Rattle.many.specs.Internal.Walk.{path_from}
-use Rattle.many.proofs.Hashes.{block_hash}
-use Rattle.many.proofs.Along.{known_more, none_more, wrong_hash, ends_here, leads_on}
 use Rattle.many.proofs.walk.walk.Given as goal
 
 abbrev pub invariant-loop-d : goal.invariant-loop-d
-invariant-loop-d l =     (l.d ≤ l.n) × (length l.known ≡ 3) × AllKnown l.paths l.known ×
+invariant-loop-d l = (l.d ≤ l.n) × (length l.known ≡ 3) × AllKnown l.paths l.known ×
     (consult (path_from l.paths l.first l.n) l.number (l.n - l.d) l.d l.link ≡ consult (path_from l.paths l.first l.n) l.number l.n 0 l.initial.link)
 
 abbrev pub decreases-loop-d : goal.decreases-loop-d
