@@ -1,0 +1,25 @@
+-- What a `match` arm knows is which variant the choice is; the part that goes with it says what its length is, and the number is the law's. There is
+-- no loop.
+use mathlib.Core.Path.{sym, ap, ◌∙◌}
+use Rattle.cache.specs.Choice.{answer_of}
+use Rattle.sundr.specs.Choose.{part_number, part_length}
+use Rattle.refusal.proofs.Words.{accepted_word, refused_word}
+use Rattle.sundr.proofs.choose.sundr_block_choose.Goals as goal
+
+pub returns-in-Reply : goal.returns-in-Reply
+returns-in-Reply c =
+    let a = c.args in
+    accepted_word part_number (part_length a.reply.now a.cached.now) (sym c.choose.ensures ∙ ap answer_of c.in-Reply.is)
+    (rw c.part.ensures.bytes at c.word.ensures)
+
+pub returns-in-Cached : goal.returns-in-Cached
+returns-in-Cached c =
+    let a = c.args in
+    accepted_word part_number (part_length a.reply.now a.cached.now) (sym c.choose.ensures ∙ ap answer_of c.in-Cached.is)
+    (rw c.part-in-Cached.ensures.bytes at c.word-in-Cached.ensures)
+
+pub returns-in-Refused : goal.returns-in-Refused
+returns-in-Refused c =
+    let a = c.args in
+    refused_word part_number (part_length a.reply.now a.cached.now) c.in-Refused.r
+    (sym c.choose.ensures ∙ ap answer_of c.in-Refused.is) c.refusal_word.ensures
