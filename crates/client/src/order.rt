@@ -67,24 +67,18 @@ fn is_before(user: u8, own: u32, pending: bool, list: &[u8]) -> bool
     listed_count(user, list) as u64 + 1 == own as u64
 }
 
-// The list as an array of structures.
-fn read_list(list: &[u8], n: usize) -> [Version; 16]
+// The list as an array of structures, put into a lent one: an array that is handed out is copied, and the stack is small.
+fn read_list(list: &[u8], n: usize, structures: &mut [Version; 16])
     requires n_bound { n ≤ 16 }
     requires n_in_bounds { size * n ≤ length list.now }
-    ensures { (i : ℕ) → i < n → get_or result i none ≡ fields (record_at list.now i) }
+    requires structures_len { length structures.old ≡ 16 }
+    ensures { (i : ℕ) → i < n → get_or structures.new i none ≡ fields (record_at list.now i) }
 {
-    let blank = Version {
-        owner: 0,
-        handle: [0u8; 32],
-        counts: [0u32; 16],
-    };
-    let mut structures = [blank; 16];
     let mut i = 0;
     while i < n {
         structures[i] = version::read(&list[SIZE * i..SIZE * i + SIZE]);
         i += 1;
     }
-    structures
 }
 
 // Whether one of two structures is at or before the other, by how their counts stand.
@@ -118,7 +112,13 @@ fn pairs(list: &[u8], next: [u32; 16]) -> Check
     ensures { (new : ℕ → ℕ) → next ≡ values new 0 16 → said result ≡ tried (pair_step list.now new ∷ []) }
 {
     let n = list.len() / SIZE;
-    let structures = read_list(list, n);
+    let blank = Version {
+        owner: 0,
+        handle: [0u8; 32],
+        counts: [0u32; 16],
+    };
+    let mut structures = [blank; 16];
+    read_list(list, n, &mut structures);
     let mut i = 0;
     let mut j = 0;
     'pairs: while i < n {

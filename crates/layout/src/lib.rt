@@ -7,15 +7,17 @@ ghost use Rattle.std.specs.Prelude.{◌≡◌, ◌&&◌, ◌+◌, ◌*◌, ◌-�
 ghost use Rattle.layout.specs.Bytes.{two, four, eight, bytes2, bytes4, bytes8, bytes_at};
 ghost use Rattle.layout.specs.Strings.{same, zeros};
 
-// Copies all of `from` to the front of `to`, and says how many bytes that was; the rest of `to` stays.
+// Copies all of `from` to the front of `to`, and says how many bytes that was; the rest of `to` stays. The library's own
+// copy would be a call of memmove, which the archive does without.
 pub fn copy(from: &[u8], to: &mut [u8]) -> usize
     requires { length from.now ≤ length to.old }
     ensures count { result ≡ length from.now }
     ensures copied { to.new ≡ take (length from.now) from.now ++ drop (length from.now) to.old }
 {
-    let n = from.len();
-    to[..n].copy_from_slice(from);
-    n
+    for i in 0..from.len() {
+        to[i] = from[i];
+    }
+    from.len()
 }
 
 // How many bytes there are from a place on.

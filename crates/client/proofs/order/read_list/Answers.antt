@@ -5,7 +5,7 @@ use Rattle.client.proofs.Lent.{read_more}
 use Rattle.client.proofs.order.read_list.Goals as goal
 
 pub loop-i-init : goal.loop-i-init
-loop-i-init c = (omega arith, refl, λ m h. absurd (omega arith))
+loop-i-init c = (omega arith, c.requires.structures_len, λ m h. absurd (omega arith))
 
 pub loop-i-preserved : goal.loop-i-preserved
 loop-i-preserved c =
