@@ -5,9 +5,10 @@ usage: python3 tools/spell.py [--dry]        at the top of the repository
 
 port.py turns the library's names and some of the repository's. This turns the others: functions, lemmas and fields that
 the specs/ and proofs/ of a crate define go from camel case and dashes to snake case, as `recordAt` to `record_at` and
-`every-next` to `every_next`. Types, modules, what the code of src/ names, exported C names, strings, inputs and outputs
-stay; the goals' names in proofs/F/ are Rattle's own, and stay. Names that would fall together are printed, and then
-nothing is written. The edits of definitions and proofs in must-fail/ turn with the rest.
+`every-next` to `every_next`, and so do the names that a file gives to what it imports. Types, modules, what the code of
+src/ names, exported C names, strings, inputs and outputs stay; the goals' names in proofs/F/ are Rattle's own, and
+stay. Names that would fall together are printed, and then nothing is written. The edits of definitions and proofs in
+must-fail/ turn with the rest.
 """
 
 import os
@@ -131,6 +132,15 @@ def kit_imports(text, own):
     return taken
 
 
+# Names that a file gives to what it imports. This one would be that of a field beside it.
+ALIASES = {"makeStore": "store_make"}
+
+
+def aliases(text):
+    """The camel case names that a file gives by `as`, each with its name of today."""
+    return {n: ALIASES.get(n, snake(n)) for n in re.findall(r"\bas ([a-z]+[A-Z]\w*)", text)}
+
+
 GHOST = re.compile(r"ghost use [^;]*;|(?:requires|ensures)\s*(?:\w+\s*)?\{|//[^\n]*")
 
 
@@ -164,7 +174,7 @@ def main():
     for path in files(".antt", ".rt", ".edit"):
         text = read(path)
         kit = kit_imports(text, own)
-        table = {n: new for n, new in to.items() if n not in kit}
+        table = {n: new for n, new in to.items() if n not in kit} | aliases(text)
         word = re.compile(rf"(?<![^\s(){{}}.;,@\"«»:`\[\]]){WORD}")
         if of_function(path):
             local = {m.group(2) for m in map(HEAD.match, text.splitlines()) if m}

@@ -11,7 +11,7 @@ use Rattle.itable.specs.Many.{many}
 use Rattle.itable.specs.Inode.{Span, block_check}
 use Rattle.itable.specs.LargeInode.{large_check}
 use Rattle.cache.specs.Choose.{choose}
-use Rattle.store.specs.Calls.{make as make_store, store as store_block, retrieve, Unreferenced, unreference}
+use Rattle.store.specs.Calls.{make as store_make, store as store_block, retrieve, Unreferenced, unreference}
 use Rattle.sundr.specs.Check.{check_into, send_again, verdict_word}
 use Rattle.sundr.specs.Compare.{compared, standing_number}
 use Rattle.sundr.specs.Choose.{part_number, part_length}
@@ -94,7 +94,7 @@ pub record AnswersRead : Type 0 where
       (handle inode : List ℕ) (index : ℕ) (indirect block : List ℕ) →
       IsRead (λ (a : Span). a.offset) (λ a. a.size) (large_check handle inode index indirect block)
   pub choose : (wanted reply cached : List ℕ) → IsRead part_number (part_length reply cached) (choose wanted reply cached)
-  pub make_store : (store : List ℕ) → IsReadPlain (make_store store)
+  pub make_store : (store : List ℕ) → IsReadPlain (store_make store)
   pub store : (store : List ℕ) (user : ℕ) (block : List ℕ) → IsReadPlain (store_block store user block)
   pub retrieve : (store hash : List ℕ) (room : ℕ) → IsRead length (λ b. 0) (retrieve store hash room)
   pub unreference :
