@@ -11,7 +11,7 @@ lib:
 desk:
 	@tools/prove desk
 
-# All proofs from nothing, then all tests. The last line is 'N passed, 0 failed'.
+# All proofs, then all tests. The last line is 'N passed, 0 failed'.
 test:
 	@tests/run
 

@@ -26,11 +26,11 @@
  * call that refuses has not altered one lent byte, and one that answers "send again" none but
  * those of the buffer that it has for that.
  *
- * Stack. The bytes that a call takes, with what it takes to call it, as make bench measures them
+ * Stack. The bytes that a call takes, with what it takes to call it, as make bench measured them
  * (x86-64, accepted, with the most users, questions or held places; what is refused was not seen to
- * take more). Every call is tested on a stack of 4,096 bytes. They are measured, not proved, so leave
- * some to spare: a memcpy() that is bound at its first call, say, takes more once (3,432 bytes were
- * seen).
+ * take more) when the library was built by an older kit. Every call is tested on a stack of 4,096
+ * bytes. They are measured, not proved, so leave some to spare: a memcpy() that is bound at its
+ * first call, say, takes more once (3,432 bytes were seen).
  *
  *     sundr_sha256             560        sundr_table_write      1,328
  *     sundr_compare              8        sundr_lookup             880

@@ -14,7 +14,7 @@ use crate::reference::input::{output, output_by};
 use crate::reference::version::{Version, RECORD, USERS};
 use crate::runner::{equal, hex, Outcome, Runner};
 
-/// Where `rt check` and `rt ci` leave it.
+/// Where `tools/prove desk` leaves it.
 const PROGRAM: &str = concat!(env!("CARGO_MANIFEST_DIR"), "/../target/bin/desk");
 
 /// What it printed by the call that did both. i-handle and answer have their lengths in every input.
