@@ -225,21 +225,20 @@ impl Run {
 /// Clients that have several checks open, whose cards are touched late, twice or never, or for counts of no check of
 /// theirs, which are refused; and whose machines die between any two steps. What is marked as an honest user's, that user
 /// wrote as pending; what an honest user makes is of counts that a check gave it. No two counted structures of a user have
-/// one own count, no check accepts a list that joins a fork among the counted ones, and of any two of these one number
+/// one own count, and no check accepts a list that joins a fork among the counted ones. Of any two of these one number
 /// tells how they stand.
-fn no_fork_is_joined() -> Outcome {
+fn lied_to(steps: usize, seen: &mut Seen, pairs: &mut Pairs) -> Outcome {
     let mut random = Random::new(3);
-    let (mut seen, mut pairs) = (Seen::default(), Pairs::default());
     for number in 0..5_000 {
         let mut run = Run::new(&mut random)?;
         let clients: Vec<usize> = (0..run.users).filter(|&user| run.honest[user]).collect();
-        for _ in 0..200 {
+        for _ in 0..steps {
             let user = pick(&mut random, &clients);
             match random.below(7) {
-                0..=2 => run.check(user, &mut seen, &mut random)?,
-                3..=5 => run.touch(user, &mut seen, &mut random)?,
+                0..=2 => run.check(user, seen, &mut random)?,
+                3..=5 => run.touch(user, seen, &mut random)?,
                 // The server has answered long ago.
-                _ => run.mark(user, &mut seen, &mut random)?,
+                _ => run.mark(user, seen, &mut random)?,
             }
         }
         let judged = run.one_per_count().and_then(|()| pairs.judge(&run.counted));
@@ -258,7 +257,20 @@ fn no_fork_is_joined() -> Outcome {
         seen.accepted += run.accepted.len();
         seen.joining_refused += run.refused.iter().filter(|list| joined(list).is_some()).count();
     }
-    pairs.at_least(1_000_000)?;
+    Ok(())
+}
+
+/// Such runs, of 200 steps each, have a million pairs.
+fn one_number_tells() -> Outcome {
+    let mut pairs = Pairs::default();
+    lied_to(200, &mut Seen::default(), &mut pairs)?;
+    pairs.at_least(1_000_000)
+}
+
+/// Such runs, of 70 steps each, have each kind of step often enough.
+fn no_fork_is_joined() -> Outcome {
+    let mut seen = Seen::default();
+    lied_to(70, &mut seen, &mut Pairs::default())?;
     let [own, other, damaged, beyond] = seen.not_made;
     let due = [
         ("forks", seen.forks),
@@ -373,9 +385,10 @@ fn late_touches() -> Outcome {
 
 pub fn checks(runner: &mut Runner) {
     runner.check(
-        "runs: 5,000 with a server and users that lie, late touches, cuts: no fork is joined, and one number tells",
+        "runs: 5,000 with a server and users that lie, touches late, twice, with others' counts, cuts: no fork is joined",
         no_fork_is_joined,
     );
+    runner.check("runs: 5,000 longer ones of the same: one number tells", one_number_tells);
     runner.check(
         "runs: 1,600 of honest turns, marked as sent or not, refused at 4,294,967,295 alone",
         turns_are_refused_at_the_last_number_alone,
