@@ -1,14 +1,10 @@
 -- Strings of other lengths differ; of strings of one length each byte is compared.
 -- The invariant: whether the bytes passed are the same, and the lengths are.
 use Prim.Native.Nat.{◌≤◌, ◌-◌}
-use mathlib.Core.Bool.{◌&&◌}
-use mathlib.Core.Path.{◌≡◌, refl, sym, ap, ◌∙◌}
-use native.Mathlib.Omega.{arith}
+use mathlib.Core.Path.{◌≡◌}
 use lib.Dec.{eqb}
 use lib.ListN.{length, get_or}
-use Rattle.search.specs.Search.{find, every}
-use Rattle.search.proofs.Search.{every_more}
-use Rattle.layout.proofs.Strings.{differ_same, same_every}
+use Rattle.search.specs.Search.{every}
 use Rattle.layout.proofs.equal.Given as goal
 
 abbrev pub invariant-loop-i : goal.invariant-loop-i

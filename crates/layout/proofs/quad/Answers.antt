@@ -5,7 +5,6 @@ use mathlib.Core.Path.{◌≡◌}
 use native.Mathlib.Omega.{arith}
 use lib.ListN.{get_or}
 use Rattle.layout.specs.Bytes.{four}
-use borrow.Author.Rules.{rules}
 use Rattle.layout.proofs.quad.Goals as goal
 
 joined :

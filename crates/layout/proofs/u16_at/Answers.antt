@@ -5,7 +5,6 @@ use mathlib.Core.Path.{◌≡◌}
 use native.Mathlib.Nat.{add-zero}
 use lib.ListN.{get_or}
 use Rattle.layout.specs.Bytes.{two}
-use borrow.Author.Rules.{rules}
 use Rattle.layout.proofs.u16_at.Goals as goal
 
 joined : (b : List ℕ) (at high low : ℕ) → high ≡ get_or b (at + 0) 0 → low ≡ get_or b (at + 1) 0 → high * 256 + low ≡ two b at

@@ -1,7 +1,6 @@
 -- The definition, byte by byte.
 use mathlib.Core.Path.{refl}
 use Rattle.layout.specs.Bytes.{bytes2}
-use borrow.Author.Rules.{rules}
 use Rattle.layout.proofs.u16_bytes.Goals as goal
 
 pub returns : goal.returns

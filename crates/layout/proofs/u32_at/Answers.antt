@@ -1,6 +1,5 @@
 -- The number no places on.
 use native.Mathlib.Nat.{add-zero}
-use borrow.Author.Rules.{rules}
 use Rattle.layout.proofs.u32_at.Goals as goal
 
 pub returns : goal.returns

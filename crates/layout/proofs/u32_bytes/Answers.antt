@@ -1,7 +1,6 @@
 -- The definition, byte by byte.
 use mathlib.Core.Path.{refl}
 use Rattle.layout.specs.Bytes.{bytes4}
-use borrow.Author.Rules.{rules}
 use Rattle.layout.proofs.u32_bytes.Goals as goal
 
 pub returns : goal.returns

@@ -4,7 +4,6 @@ use mathlib.Core.List.{List, [], ◌∷◌}
 use mathlib.Core.Path.{◌≡◌}
 use lib.ListN.{get_or}
 use Rattle.layout.specs.Bytes.{bytes4, bytes8}
-use borrow.Author.Rules.{rules}
 use Rattle.layout.proofs.u64_bytes.Goals as goal
 
 joined :

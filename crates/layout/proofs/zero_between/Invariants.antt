@@ -1,13 +1,8 @@
 -- The invariant: whether the bytes passed are zero. What is behind the end of the bytes is read as zero.
 use Prim.Native.Nat.{◌≤◌, ◌-◌, min}
-use mathlib.Core.Bool.{◌&&◌}
-use mathlib.Core.Path.{◌≡◌, sym, ap, ◌∙◌}
-use native.Mathlib.Omega.{arith}
-use lib.Dec.{eqb}
-use lib.ListN.{length, get_or}
-use Rattle.search.proofs.Search.{every_intro}
+use mathlib.Core.Path.{◌≡◌}
+use lib.ListN.{length}
 use Rattle.layout.specs.Strings.{zeros}
-use Rattle.layout.proofs.Zeros.{zeros_next, zeros_reach}
 use Rattle.layout.proofs.zero_between.Given as goal
 
 abbrev pub invariant-loop-x : goal.invariant-loop-x

@@ -2,7 +2,6 @@
 use Prim.Native.Nat.{ℕ}
 use mathlib.Core.Path.{ap}
 use Rattle.refusal.specs.Refusal.{given}
-use borrow.Author.Rules.{rules}
 use Rattle.refusal.proofs.Words.{accepted_word, refused_word}
 use Rattle.refusal.proofs.given_word.Goals as goal
 

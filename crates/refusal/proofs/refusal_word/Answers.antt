@@ -1,7 +1,6 @@
 -- The word of a refusal is that of the number and the positions that it tells.
 use mathlib.Core.Path.{sym, ap, ◌∙◌}
 use Rattle.refusal.specs.Word.{plain_word}
-use borrow.Author.Rules.{rules}
 use Rattle.refusal.proofs.refusal_word.Goals as goal
 
 pub returns : goal.returns

@@ -5,7 +5,6 @@ use Rattle.refusal.specs.Answer.{Answer, refused}
 use Rattle.refusal.specs.Refusal.{refusal}
 use Rattle.refusal.specs.declared.Refusal.{Refusal}
 use Rattle.refusal.specs.declared.Told.{Told}
-use borrow.Author.Rules.{rules}
 use Rattle.refusal.proofs.tell.Goals as goal
 
 -- What is told, as an answer.
