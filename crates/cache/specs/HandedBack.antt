@@ -1,5 +1,5 @@
 -- "Without copying": what is handed back is one of the lent slices itself, and not only equal to it. A reference to a slice (`Bor`) is where it
--- points, `ref_ptr`, and the elements there, `now`, with the name under which the logic follows them.
+-- points, `ref_ptr`, and the elements there, `now`.
 use Rattle.std.specs.Prelude.{ℕ, List, [], ◌≡◌}
 use Rattle.std.specs.Borrow.{Bor}
 use Rattle.refusal.specs.Answer.{Answer, accepted, refused}

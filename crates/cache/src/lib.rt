@@ -15,7 +15,7 @@ const HASH: usize = 32;
 const LONGEST: usize = 65536;
 
 // Which part is the wanted block, or why none is handed back.
-#[derive(Drop)]
+#[derive(Clone, Copy)]
 pub enum Choice {
     Reply,
     Cached,

@@ -24,7 +24,7 @@ use version::SIZE;
 
 // What a check says: the list is accepted, and the counts of the next structure are given; it is not
 // accepted, and the structure in the file is to be sent again; or the check is refused.
-#[derive(Drop)]
+#[derive(Clone, Copy)]
 pub enum Verdict {
     Next,
     Again,
@@ -33,7 +33,7 @@ pub enum Verdict {
 
 // The check's verdict; the counts of the next structure, sixteen zeros unless it is `Next`; and the bytes
 // to be sent again, 98 zeros unless it is `Again`.
-#[derive(Drop)]
+#[derive(Clone, Copy)]
 pub struct Judged {
     pub verdict: Verdict,
     pub counts: [u32; 16],

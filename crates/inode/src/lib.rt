@@ -35,7 +35,7 @@ const HASHES: usize = 5;
 const COUNT: usize = 16;
 
 // The file offset and the length of an accepted block, or why it is refused.
-#[derive(Drop)]
+#[derive(Clone, Copy)]
 pub enum Spanned {
     Span(usize, usize),
     Refused(Refusal),

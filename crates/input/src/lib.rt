@@ -30,7 +30,7 @@ const AFTER_MEMORY: usize = 133;
 const MARKED: usize = 99;
 
 // What is said of an input.
-#[derive(Drop)]
+#[derive(Clone, Copy)]
 pub enum Outcome {
     OtherForm,
     Accepted,
@@ -39,7 +39,7 @@ pub enum Outcome {
 
 // The outcome; the input's first two bytes, 0 where it has none; and the counts of the accepted
 // structure, zeros where nothing is accepted.
-#[derive(Drop)]
+#[derive(Clone, Copy)]
 pub struct Report {
     pub outcome: Outcome,
     pub users: u8,

@@ -3,21 +3,22 @@
 // numbers and the parts of a byte string are, and the laws of both, stands in specs/ and proofs/.
 #![tactic(auto)]
 
-ghost use Rattle.std.specs.Prelude.{◌≡◌, ◌&&◌, ◌+◌, ◌*◌, ◌-◌, ◌≤◌, min, eqb, ◌++◌, length, get_or, take, drop, replicate};
+ghost use Rattle.std.specs.Prelude.{◌≡◌, ◌&&◌, ◌+◌, ◌*◌, ◌-◌, ◌<◌, ◌≤◌, min, eqb, ◌++◌, length, get_or, take, drop, replicate};
 ghost use Rattle.layout.specs.Bytes.{two, four, eight, bytes2, bytes4, bytes8, bytes_at};
 ghost use Rattle.layout.specs.Strings.{same, zeros};
 
-// Copies all of `from` to the front of `to`, and says how many bytes that was; the rest of `to` stays. The library's own
-// copy would be a call of memmove, which the archive does without.
+// Copies as many bytes as there are, and as there is room for, to the front of `to`, and says how many; the rest of `to`
+// stays. The library's own copy would be a call of memmove, which the archive does without.
 pub fn copy(from: &[u8], to: &mut [u8]) -> usize
-    requires { length from.now ≤ length to.old }
-    ensures count { result ≡ length from.now }
-    ensures copied { to.new ≡ take (length from.now) from.now ++ drop (length from.now) to.old }
+    ensures count { result ≡ min (length from.now) (length to.old) }
+    ensures copied { length from.now ≤ length to.old → to.new ≡ take (length from.now) from.now ++ drop (length from.now) to.old }
+    ensures cut { length to.old < length from.now → to.new ≡ take (length to.old) from.now }
 {
-    for i in 0..from.len() {
+    let n = from.len().min(to.len());
+    for i in 0..n {
         to[i] = from[i];
     }
-    from.len()
+    n
 }
 
 // How many bytes there are from a place on.

@@ -13,7 +13,7 @@ use itable::Link;
 use refusal::Refusal;
 
 // What a lookup says: the i-number's file is there, or it is absent; or why the path says nothing.
-#[derive(Drop)]
+#[derive(Clone, Copy)]
 pub enum Outcome {
     Found,
     Absent,
@@ -21,7 +21,7 @@ pub enum Outcome {
 }
 
 // The answer of a lookup: the file's handle stands beside it, 32 zero bytes where none is found.
-#[derive(Drop)]
+#[derive(Clone, Copy)]
 pub struct Looked {
     pub answer: Outcome,
     pub handle: [u8; 32],

@@ -27,7 +27,7 @@ const ENTRY: usize = 33;
 
 // What a call says: all questions are answered; or the first whose lookup is refused, and why. A
 // length of the whole call is refused at question 0, which is how the papers tell it.
-#[derive(Drop)]
+#[derive(Clone, Copy)]
 pub enum Outcome {
     Answered,
     Refused(usize, Refusal),

@@ -7,23 +7,19 @@ use native.Mathlib.Decide.{dec_lt}
 use native.Mathlib.Omega.{arith}
 
 -- Structures of type S count operations. `Signs t a x`: at time t, user a signs x. `Lists t a r`: at time t a list is accepted that has the
--- record r of owner a. (`counted`, and the last parts of `made`, are for `CountsAll`.)
+-- record r of owner a.
 pub record Clients {S : Type 0} (count : S → ℕ → ℕ) (honest : ℕ → Type 0) (Signs Lists : ℕ → ℕ → S → Type 0) : Type 0 where
   pub user : {t a : ℕ} {x : S} → Signs t a x → a < 16
-  -- What a user signs counts an operation of this user.
-  pub counted : {t a : ℕ} {x : S} → Signs t a x → 0 < count x a
   -- A user signs one structure for each own count.
   pub once : {t t' a : ℕ} {x x' : S} → Signs t a x → Signs t' a x' → count x a ≡ count x' a → x ≡ x'
-  -- A signed structure is made from a list, accepted then or earlier: that list has the structure signed before, the counts of the other
-  -- users are those of their records, and each of these records is at or before it.
+  -- A signed structure is made from a list, accepted then or earlier: that list has the structure signed before, and the counts of the
+  -- other users are those of their records.
   pub made :
       {t a : ℕ} {x : S} → Signs t a x →
       (t' : ℕ) ×
       (t' ≤ t) ×
-      (1 < count x a →
-      (r : S) × Lists t' a r × (count r a + 1 ≡ count x a) × ((w : ℕ) → w < 16 → count r w ≤ count x w)) ×
-      ((v : ℕ) → v < 16 → (v ≡ a → ⊥) → 0 < count x v →
-      (r : S) × Lists t' v r × (count r v ≡ count x v) × ((w : ℕ) → w < 16 → count r w ≤ count x w))
+      (1 < count x a → (r : S) × Lists t' a r × (count r a + 1 ≡ count x a)) ×
+      ((v : ℕ) → v < 16 → (v ≡ a → ⊥) → 0 < count x v → (r : S) × Lists t' v r × (count r v ≡ count x v))
   -- Any two records of an accepted list are ordered.
   pub ordered :
       {t a b : ℕ} {r r' : S} → Lists t a r → Lists t b r' →

@@ -22,6 +22,7 @@ use Rattle.protocol.proofs.Accepts.{Accepts, accepts}
 use Rattle.protocol.proofs.CreateMeans.{create_means}
 use Rattle.protocol.proofs.MadeMeans.{made_means, made_one_more}
 use Rattle.protocol.proofs.Clients.{Clients, no_list_joins}
+use Rattle.protocol.proofs.CountsAll.{Counting}
 use Rattle.protocol.proofs.FileCalls.{gives_held, makes_held}
 use Rattle.protocol.proofs.History.{writes_made, counted_event, gave_call, signed_once}
 
@@ -193,8 +194,21 @@ module _ (N : ℕ) (honest : ℕ → Type 0) (run : List Event) (premise : Premi
         },
       )
 
-  pub clients : Clients count honest (Signs N honest run) (Lists N run)
-  clients = record { user = signs_user; counted = signs_counted; once = signs_once; made = signs_from; ordered = lists_ordered; signed = lists_signed }
+  clients : Clients count honest (Signs N honest run) (Lists N run)
+  clients =
+      record {
+        user = signs_user;
+        once = signs_once;
+        made =
+            λ s.
+            let m = signs_from s in
+            (m.0, m.1, λ h. let r = m.2 h in (r.0, r.1, r.2), λ v h n l. let r = m.3 v h n l in (r.0, r.1, r.2));
+        ordered = lists_ordered;
+        signed = lists_signed;
+      }
+
+  pub counting : Counting count honest (Signs N honest run) (Lists N run)
+  counting = record { clients = clients; counted = signs_counted; made = signs_from }
 
 -- An entry that is x or later, as a record of an accepted list.
 shows_lists :

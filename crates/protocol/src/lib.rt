@@ -9,7 +9,7 @@ pub const RECORDS: usize = 1568;
 // The server's version structure list (the keeper): the number of users, and for each user 0 to 15
 // the 98 bytes of its last record. A user whose own count there is 0 has none. Laid out as in C.
 #[repr(C)]
-#[derive(Drop)]
+#[derive(Clone, Copy)]
 pub struct Server {
     pub users: u8,
     pub records: [u8; RECORDS],

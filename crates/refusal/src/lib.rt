@@ -11,7 +11,7 @@ ghost use Rattle.refusal.specs.Refusal.{refusal, said, given};
 ghost use Rattle.refusal.specs.Word.{word as word_of, answer_word, plain_word};
 
 // The refusals, in the order of their numbers, 1 to 17.
-#[derive(Drop)]
+#[derive(Clone, Copy)]
 pub enum Refusal {
     // 1: the number of users is not 1 to 16, or the user is not below it; of a block store, above 15.
     Users,
@@ -50,21 +50,21 @@ pub enum Refusal {
 }
 
 // The answer of a call whose result is in a lent buffer, and of each stage of a longer one.
-#[derive(Drop)]
+#[derive(Clone, Copy)]
 pub enum Check {
     Passed,
     Refused(Refusal),
 }
 
 // The answer of a call that gives a number, beside what it may write into a lent buffer.
-#[derive(Drop)]
+#[derive(Clone, Copy)]
 pub enum Given {
     Number(usize),
     Refused(Refusal),
 }
 
 // A refusal's number and both positions.
-#[derive(Drop)]
+#[derive(Clone, Copy)]
 pub struct Told {
     pub number: u8,
     pub first: usize,

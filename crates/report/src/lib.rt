@@ -19,7 +19,7 @@ use refusal::Refusal;
 pub const MOST: usize = 393;
 
 // What printing gives: how many bytes were written, or why none were.
-#[derive(Drop)]
+#[derive(Clone, Copy)]
 pub enum Printed {
     Bytes(usize),
     Refused(Refusal),

@@ -20,21 +20,21 @@ ghost use Rattle.server.specs.Listed.{listed_as};
 ghost use Rattle.server.specs.Commit.{commit_into};
 
 // What making gives: the check of the number of users, and the server's list.
-#[derive(Drop)]
+#[derive(Clone, Copy)]
 pub struct Made {
     pub check: Check,
     pub server: Server,
 }
 
 // What a listing gives: how many records were written, or why none were.
-#[derive(Drop)]
+#[derive(Clone, Copy)]
 pub enum Listed {
     Records(usize),
     Refused(Refusal),
 }
 
 // What a commit gives: the check of the record, and the server's list after it.
-#[derive(Drop)]
+#[derive(Clone, Copy)]
 pub struct Committed {
     pub check: Check,
     pub server: Server,

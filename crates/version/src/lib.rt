@@ -190,7 +190,7 @@ pub fn is_user(users: u8, user: u8) -> bool
 
 // How the counts of one structure stand to those of another: all are equal; it is strictly before; it
 // is strictly after; or neither is at or before the other.
-#[derive(Drop)]
+#[derive(Clone, Copy)]
 pub enum Standing {
     Equal,
     Before,

@@ -19,7 +19,7 @@ use refusal::{Check, Refusal};
 const MOST: usize = 4096;
 
 // The number of blocks that stand at the front of the buffer, or why none was written.
-#[derive(Drop)]
+#[derive(Clone, Copy)]
 pub enum Written {
     Blocks(usize),
     Refused(Refusal),

@@ -78,8 +78,9 @@ pub returns : goal.returns
 unfolding retrieve_into
 returns c =
     let a = c.args in
+    let n : c.copy.result ≡ length c.block-block.result.now = omega (arith, c.copy.ensures.count) in
     let d =
     done_accepted length (λ b. b ++ drop (length b) a.out.now) a.out.now
     (retrieve_block a.store.now a.hash.now (length a.out.now) c.admit-c.result c.admit-c.ensures c.in_default.is
     c.place_of-p.result c.place_of-p.ensures c.if-p-eq-PLACES.false _ (of_place a.store.now c.place_of-p.result block_in c.block-block.ensures) c.if-out-block.false)
-    c.copy.ensures.count (front_copied c.block-block.result.now a.out.now _ c.copy.ensures.copied) in record { answers = d.0; leaves = d.1 }
+    n (front_copied c.block-block.result.now a.out.now _ (c.copy.ensures.copied (omega arith))) in record { answers = d.0; leaves = d.1 }

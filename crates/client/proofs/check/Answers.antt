@@ -1,5 +1,6 @@
 -- The stages one after the other: each refusal is handed on as it is, and the third one's answer is the check's, with the bytes that are
 -- held copied where they are to be sent again.
+use native.Mathlib.Omega.{arith}
 use mathlib.Core.Path.{◌≡◌}
 use Rattle.client.proofs.Finish.{sizes_refuse, sized, small, given_refuse, long, forms_refuse, owned, order_answers}
 use Rattle.client.proofs.Told.{at_most, tells_verdict, tells_again}
@@ -57,15 +58,10 @@ returns-in_default-verdict c =
     c.forms-f.result c.forms-f.ensures c.in_default-f.is in
     tells_verdict _ _ l c.held-held.ensures _ _ d _ c.pending.ensures _ _ c.order-o.ensures (not_again _ c.in_default-verdict.not-Again)
 
-pub copy-requires : goal.copy-requires
-copy-requires c =
-    let l = long _ _ _ _ _ c.sizes-s.result c.sizes-s.ensures c.in_default.is c.given-g.result c.given-g.ensures c.in_default-g.is in
-    at_most _ _ l c.held-held.ensures
-
 pub returns : goal.returns
 returns c =
     let l = long _ _ _ _ _ c.sizes-s.result c.sizes-s.ensures c.in_default.is c.given-g.result c.given-g.ensures c.in_default-g.is in
     let d =
     order_answers _ _ _ _ _ c.sizes-s.result c.sizes-s.ensures c.in_default.is c.given-g.result c.given-g.ensures c.in_default-g.is
     c.forms-f.result c.forms-f.ensures c.in_default-f.is in
-    tells_again _ _ l c.held-held.ensures _ _ d _ c.pending.ensures _ _ c.order-o.ensures c.in-Again.is _ c.copy.ensures.copied
+    tells_again _ _ l c.held-held.ensures _ _ d _ c.pending.ensures _ _ c.order-o.ensures c.in-Again.is _ (c.copy.ensures.copied (at_most _ _ l c.held-held.ensures))

@@ -15,7 +15,7 @@ pub loop-i-preserved : goal.loop-i-preserved
 unfolding first_marks
 loop-i-preserved c =
     let sent = c.args.sent.now in
-    let e = c.copy.ensures.copied in (
+    let e = (c.copy.ensures.copied (omega arith)) in (
       omega arith,
       simp length-set c.loop-i.invariant.1,
       record_length sent c.loop-i.list _ c.loop-i.i (omega arith) (omega arith) e ∙ c.loop-i.invariant.2,

@@ -11,7 +11,7 @@ pub returns-then-n-ge32 : goal.returns-then-n-ge32
 returns-then-n-ge32 c =
     let a = c.args in
     let e : a.at + 32 - a.at ≡ 32 = omega arith in
-    c.copy.ensures.copied ∙
+    (c.copy.ensures.copied (omega arith)) ∙
     part_copied a.b.now _ a.at 32 (omega (arith, c.rest-n.ensures)) (ap (λ m. take m (drop a.at a.b.now)) e)
 
 pub returns-then-n-gt0 : goal.returns-then-n-gt0
@@ -20,7 +20,7 @@ returns-then-n-gt0 c =
     let m = c.rest-n.result in
     let r = c.rest-n.ensures in
     let e : a.at + m - a.at ≡ m = omega arith in
-    c.copy-then-n-gt0.ensures.copied ∙
+    (c.copy-then-n-gt0.ensures.copied (omega arith)) ∙
     rest_copied a.b.now _ a.at m 32 (omega arith) (omega arith) (λ i l k. omega arith) (ap (λ m. take m (drop a.at a.b.now)) e)
 
 pub returns-else-n-gt0 : goal.returns-else-n-gt0

@@ -1,6 +1,7 @@
 -- Tests that refuse and a file that is pending are the definition's; otherwise what the file holds is copied.
+use Prim.Native.Nat.{◌≤◌}
 use mathlib.Core.List.{◌++◌}
-use mathlib.Core.Path.{ap, ◌∙◌}
+use mathlib.Core.Path.{◌≡◌, ap, ◌∙◌}
 use native.Mathlib.Omega.{arith}
 use lib.ListN.{length, drop}
 use lib.Seq.{take-length}
@@ -33,21 +34,20 @@ returns-then-pending c =
     c.if-pending.true) in
     record { answers = w.0; leaves = w.1 }
 
-pub copy-n-requires : goal.copy-n-requires
-copy-n-requires c =
-    let j = c.judge-c in
-    let l = both_long _ _ file_size _ size c.both-long.ensures (was_long _ _ _ _ j.result j.ensures c.in_default.is) in
-    let s = held_short c.args.file.now l.0 in omega (arith, ap length c.held.ensures, s, l.1)
-
 pub returns : goal.returns
 unfolding back_into
 returns c =
     let a = c.args in
+    let j = c.judge-c in
+    let l = both_long _ _ file_size _ size c.both-long.ensures (was_long _ _ _ _ j.result j.ensures c.in_default.is) in
+    let s = held_short c.args.file.now l.0 in
+    let fits : length c.held.result.now ≤ length a.out.now = omega (arith, ap length c.held.ensures, s, l.1) in
+    let n : c.copy-n.result ≡ length c.held.result.now = omega (arith, c.copy-n.ensures.count) in
     let w =
     done_accepted length (λ old. old ++ drop (length old) a.out.now) a.out.now
     (back_held a.users a.user a.file.now (length a.out.now) c.both-long.result c.formed.result c.both-long.ensures
     c.formed.ensures c.judge-c.result c.judge-c.ensures c.in_default.is c.pending.result c.pending.ensures
     c.if-pending.false)
-    (c.copy-n.ensures.count ∙ ap length c.held.ensures)
-    (c.copy-n.ensures.copied ∙ rw (take-length c.held.result.now, c.held.ensures)) in
+    (n ∙ ap length c.held.ensures)
+    (c.copy-n.ensures.copied fits ∙ rw (take-length c.held.result.now, c.held.ensures)) in
     record { answers = w.0; leaves = w.1 }

@@ -12,14 +12,6 @@ returns-in_default c =
     let t = over_test _ _ _ _ c.none_or_one.ensures c.both-long.ensures in
     hands_on _ _ (over_due _ _ _ _ _ _ t c.remembered.ensures) c.judge-c.result c.judge-c.ensures (rw c.in_default.is)
 
-pub copy-requires : goal.copy-requires
-copy-requires c =
-    let j = c.judge-c in
-    let l =
-    over_long _ _ _ _ c.none_or_one.ensures c.both-long.ensures
-    (was_long _ _ _ _ j.result j.ensures c.in-Passed.is) in
-    omega (arith, l.1)
-
 pub returns : goal.returns
 returns c =
     let j = c.judge-c in
@@ -28,4 +20,4 @@ returns c =
     over_long _ _ _ _ c.none_or_one.ensures c.both-long.ensures
     (was_long _ _ _ _ j.result j.ensures c.in-Passed.is) in
     gives_result _ _ (goes_on_to _ _ (over_due _ _ _ _ _ _ t c.remembered.ensures) j.result j.ensures (rw c.in-Passed.is))
-    (c.copy.ensures.copied ∙ (copied_over _ _ (omega (arith, l.1)) ∙ c.file_of-file.ensures.laid l.0))
+    (c.copy.ensures.copied (omega (arith, l.1)) ∙ (copied_over _ _ (omega (arith, l.1)) ∙ c.file_of-file.ensures.laid l.0))

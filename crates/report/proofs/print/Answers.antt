@@ -17,11 +17,8 @@ pub slice_bounds-copy-end : goal.slice_bounds-copy-end
 slice_bounds-copy-end c =
     let l = c.report-n in sym (length-take-le _ _ (omega (arith, l.ensures.appended.long, l.ensures.upper_bound)))
 
-pub copy-requires : goal.copy-requires
-copy-requires c = simp length-take (omega arith)
-
 pub returns : goal.returns
 returns c =
     let p = rw (report_printed _ _ c.judge.ensures) at c.report-n.ensures.appended in
-    let r = room c.args.input.now _ _ c.args.out.now _ p _ (omega arith) c.copy.ensures.copied in
+    let r = room c.args.input.now _ _ c.args.out.now _ p _ (omega arith) (c.copy.ensures.copied (simp length-take (omega arith))) in
     record { answers = r.0; leaves = r.1; short = omega (arith, p.ends, c.report-n.ensures.upper_bound) }

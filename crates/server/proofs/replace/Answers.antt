@@ -17,6 +17,6 @@ returns c =
     let whole : take 98 x ≡ x = take_all 98 x (omega (arith, c.requires.1)) in
     let room = length r - at in
     let f =
-    c.copy.ensures.copied ∙ ap (λ (s : List ℕ). take (length s) s ++ drop (length s) (take room (drop at r))) whole in
+    (c.copy.ensures.copied (omega arith)) ∙ ap (λ (s : List ℕ). take (length s) s ++ drop (length s) (take room (drop at r))) whole in
     let e = copied x r _ at room (omega (arith, c.requires)) (omega (arith, c.requires)) f in
     rw c.requires.1 at e

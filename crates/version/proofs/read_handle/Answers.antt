@@ -6,4 +6,4 @@ use Rattle.version.proofs.read_handle.Goals as goal
 
 pub returns : goal.returns
 returns c =
-    c.copy.ensures.copied ∙ part_copied c.args.x.now _ 2 32 (omega arith) refl
+    (c.copy.ensures.copied (omega arith)) ∙ part_copied c.args.x.now _ 2 32 (omega arith) refl

@@ -10,4 +10,4 @@ pub returns : goal.returns
 unfolding put_at
 returns c =
     let x = c.args.store.now in
-    let at = c.args.at in copied c.args.new.now x _ at (length x - at) c.requires (omega arith) c.copy.ensures.copied
+    let at = c.args.at in copied c.args.new.now x _ at (length x - at) c.requires (omega arith) (c.copy.ensures.copied (omega arith))

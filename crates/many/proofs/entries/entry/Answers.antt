@@ -1,5 +1,6 @@
 -- The entry is what the block says: zeros in an inner block or where no slot of the leaf has the number, else 1 and the slot's value.
 -- There is no loop.
+use native.Mathlib.Omega.{arith}
 use mathlib.Core.Path.{sym, ◌∙◌}
 use Rattle.many.proofs.Writing.{no_leaf, no_slot, in_slot}
 use Rattle.many.proofs.entries.entry.Goals as goal
@@ -18,4 +19,4 @@ pub returns : goal.returns
 returns c =
     let a = c.args in
     in_slot a.b.now a.number (sym c.kind.ensures ∙ c.if-kind-ne-LEAF.false) _ _ c.slot_of-j.ensures c.used.ensures _ _
-    c.if-used-j.false c.value-handle.ensures c.copy.ensures.copied
+    c.if-used-j.false c.value-handle.ensures (c.copy.ensures.copied (omega arith))

@@ -17,7 +17,7 @@ loop-q-preserved c =
     let a = c.args in
     let r =
     written_next a.numbers.now a.counts.now a.paths.now l.out _ _ l.behind _ l.q (omega arith) c.loop-q-test.true
-    l.invariant.1 c.wide-behind.ensures l.invariant.3 c.entry-e.ensures c.copy.ensures.copied in
+    l.invariant.1 c.wide-behind.ensures l.invariant.3 c.entry-e.ensures (c.copy.ensures.copied (omega arith)) in
     (search rules, omega (arith, total_next a.counts.now l.q), r.0 ∙ l.invariant.2, r.1)
 
 -- The blocks up to question q's lie within the paths, and its own path has one.

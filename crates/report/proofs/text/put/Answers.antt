@@ -9,4 +9,4 @@ pub returns : goal.returns
 returns c =
     let a = c.args in
     appended_copy a.text.now a.out.now _ a.at (length a.out.now - a.at) (omega arith) (omega arith)
-    c.copy.ensures.copied
+    (c.copy.ensures.copied (omega arith))

@@ -1,6 +1,6 @@
 -- Where the own count is 0 nothing is held and nothing is written; else the slot is what is held, and it is copied to its place.
 -- There is no loop.
-use Prim.Native.Nat.{ℕ, ◌+◌, ◌-◌, ◌*◌}
+use Prim.Native.Nat.{◌≤◌, ℕ, ◌+◌, ◌-◌, ◌*◌}
 use mathlib.Core.List.{List, []}
 use mathlib.Core.Path.{◌≡◌, sym, ap, ◌∙◌}
 use native.Mathlib.Omega.{arith}
@@ -25,13 +25,6 @@ returns-then-own_count-eq0 c =
       written = rw e (sym (take-append-drop a.at a.out.now));
     }
 
-pub copy-requires : goal.copy-requires
-copy-requires c =
-    let a = c.args in
-    let s : Server = record { users = 0; records = a.records.now } in
-    let e = length_held s a.v (search rules) (search rules) (λ z. c.if-own_count-eq0.false (c.own_count.ensures ∙ z)) in
-    simp (length-take, length-drop) (omega (arith, e))
-
 pub returns : goal.returns
 returns c =
     let a = c.args in
@@ -42,7 +35,9 @@ returns c =
     let p : 98 * a.v + 98 - 98 * a.v ≡ size = omega arith in
     let e : xs ≡ slot s a.v = rw p in
     let f = copied xs a.out.now _ a.at (length a.out.now - a.at) (omega (arith, l, ap length h, ap length e)) (omega arith) in
-    let w = f c.copy.ensures.copied in
+    let fits : length xs ≤ length (take (length a.out.now - a.at) (drop a.at a.out.now)) =
+    simp (length-take, length-drop) (omega (arith, l, ap length h)) in
+    let w = f (c.copy.ensures.copied fits) in
     record {
       next = omega (arith, l, ap length h);
       written = rw h (rw (e, l) at w);

@@ -26,10 +26,6 @@ returns-then-again-ne-SIZE c =
     c.refusal_word-then-again-ne-SIZE.ensures in
     record { answer = t.0; counts = t.1.0; again = t.1.1 }
 
-pub copy-requires : goal.copy-requires
-copy-requires c =
-    let l : length c.check-judged.result.again ≡ size = search rules in omega (arith, l)
-
 pub returns-in-Next : goal.returns-in-Next
 returns-in-Next c =
     let a = c.args in
@@ -44,7 +40,7 @@ returns-in-Again c =
     let room : (length a.counts.now ≡ 16) × (length a.again.now ≡ size) = (omega arith, omega arith) in
     let l : length c.check-judged.result.again ≡ size = search rules in
     let t = tells_again a.users a.user (length a.counts.now) (length a.again.now) a.file.now a.list.now a.marks.now room c.check-judged.result c.check-judged.ensures
-    a.counts.now a.again.now _ c.in-Again.is refl (c.copy.ensures.copied ∙ copied_over _ _ (omega (arith, l))) in
+    a.counts.now a.again.now _ c.in-Again.is refl (c.copy.ensures.copied (omega (arith, l)) ∙ copied_over _ _ (omega (arith, l))) in
     record { answer = t.0; counts = t.1.0; again = t.1.1 }
 
 pub returns-in-Refused : goal.returns-in-Refused

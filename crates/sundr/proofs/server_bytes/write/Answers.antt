@@ -7,19 +7,13 @@ use Rattle.sundr.specs.Server.{bytes_of}
 use Rattle.sundr.proofs.At.{room, written}
 use Rattle.sundr.proofs.server_bytes.write.Goals as goal
 
-pub copy-requires : goal.copy-requires
-copy-requires c =
-    let a = c.args in
-    let l : length a.server.records ≡ 1568 = search rules in
-    room a.out.now a.server.records a.server.users c.requires l
-
 pub returns : goal.returns
 unfolding bytes_of
 returns c =
     let a = c.args in
     let p = c.requires in
     let l : length a.server.records ≡ 1568 = search rules in
-    written a.out.now a.server.records a.server.users p l _ c.copy.ensures.copied
+    written a.out.now a.server.records a.server.users p l _ (c.copy.ensures.copied (room a.out.now a.server.records a.server.users p l))
 
 pub shape_of-out : goal.shape_of-out
 unfolding bytes_of

@@ -21,7 +21,7 @@ returns-in-Found c =
     let a = c.args in
     let l : length c.lookup-looked.result.handle ≡ 32 = search rules in
     let g = is_found_means a.handle.now a.number a.path.now a.out.now (omega arith) c.lookup-looked.ensures in
-    let t = g c.in-Found.is l c.word.ensures c.copy.ensures.copied in
+    let t = g c.in-Found.is l c.word.ensures (c.copy.ensures.copied (omega arith)) in
     record {
       answer = t.number;
       buffer = t.buffer;
