@@ -13,9 +13,11 @@ pub fn sundr_block_choose<'a>(wanted: &[u8], reply: &'a [u8], cached: &'a [u8]) 
     ensures { result ≡ answer_word part_number (part_length reply.now cached.now)
         (choose wanted.now reply.now cached.now) }
 {
-    match cache::choose(wanted, reply, cached) {
-        Choice::Reply => refusal::word(0, 0, cache::part(Choice::Reply, reply, cached).len()),
-        Choice::Cached => refusal::word(0, 1, cache::part(Choice::Cached, reply, cached).len()),
+    let c = cache::choose(wanted, reply, cached);
+    let part = cache::part(c, reply, cached);
+    match c {
+        Choice::Reply => refusal::word(0, 0, part.len()),
+        Choice::Cached => refusal::word(0, 1, part.len()),
         Choice::Refused(r) => refusal::refusal_word(r),
     }
 }

@@ -9,17 +9,17 @@ use Rattle.sundr.proofs.choose.sundr_block_choose.Goals as goal
 pub returns-in-Reply : goal.returns-in-Reply
 returns-in-Reply c =
     let a = c.args in
-    accepted_word part_number (part_length a.reply.now a.cached.now) (sym c.choose.ensures ∙ ap answer_of c.in-Reply.is)
-    (rw c.part.ensures.bytes at c.word.ensures)
+    accepted_word part_number (part_length a.reply.now a.cached.now) (sym c.choose-c.ensures ∙ ap answer_of c.in-Reply.is)
+    (rw (c.part-part.ensures.bytes, c.in-Reply.is) at c.word.ensures)
 
 pub returns-in-Cached : goal.returns-in-Cached
 returns-in-Cached c =
     let a = c.args in
-    accepted_word part_number (part_length a.reply.now a.cached.now) (sym c.choose.ensures ∙ ap answer_of c.in-Cached.is)
-    (rw c.part-in-Cached.ensures.bytes at c.word-in-Cached.ensures)
+    accepted_word part_number (part_length a.reply.now a.cached.now) (sym c.choose-c.ensures ∙ ap answer_of c.in-Cached.is)
+    (rw (c.part-part.ensures.bytes, c.in-Cached.is) at c.word-in-Cached.ensures)
 
 pub returns-in-Refused : goal.returns-in-Refused
 returns-in-Refused c =
     let a = c.args in
     refused_word part_number (part_length a.reply.now a.cached.now) c.in-Refused.r
-    (sym c.choose.ensures ∙ ap answer_of c.in-Refused.is) c.refusal_word.ensures
+    (sym c.choose-c.ensures ∙ ap answer_of c.in-Refused.is) c.refusal_word.ensures
