@@ -1,5 +1,5 @@
 /*
- * What a caller reads in an answer: the header's three readers against refusalIn, firstIn and secondIn of
+ * What a caller reads in an answer: the header's three readers against refusal_in, first_in and second_in of
  * crates/sundr/specs/Read.antt, which are written here anew, by division.
  */
 #include "sundr.h"
