@@ -1,17 +1,17 @@
 -- A call that gives a number and leaves something: both by its answer, refused, or accepted.
 use Prim.Native.Nat.{ℕ}
 use mathlib.Core.Path.{◌≡◌, sym}
+use Rattle.std.specs.Prelude.{Ok, Err}
 use Rattle.refusal.specs.Answer.{Answer, accepted, and_then}
-use Rattle.refusal.specs.Refusal.{refusal, given}
+use Rattle.refusal.specs.Refusal.{refusal, said}
 use Rattle.refusal.specs.Result.{left}
-use Rattle.refusal.specs.declared.Given.TheVariants.{Number, Refused as NotGiven}
 use Rattle.refusal.specs.declared.Refusal.{Refusal}
 use Rattle.refusal.proofs.Numbered.{ends, keeps}
 
 module _ {A B : Type 0} (f : A → ℕ) (g : A → B) (before : B) {x : Answer A} where
   pub done_refused :
       (r : Refusal) → x ≡ refusal r →
-      (given (NotGiven r) ≡ and_then x (λ a. accepted (f a))) × (before ≡ left (and_then x (λ a. accepted (g a))) before)
+      (said (Err r) ≡ and_then x (λ a. accepted (f a))) × (before ≡ left (and_then x (λ a. accepted (g a))) before)
   done_refused r e = (
     rw e (sym (ends r (λ (a : A). accepted (f a)))),
     rw (e, ends r (λ (a : A). accepted (g a))) (sym (keeps r before)),
@@ -19,5 +19,5 @@ module _ {A B : Type 0} (f : A → ℕ) (g : A → B) (before : B) {x : Answer A
 
   pub done_accepted :
       {a : A} {n : ℕ} {after : B} → x ≡ accepted a → n ≡ f a → after ≡ g a →
-      (given (Number n) ≡ and_then x (λ a. accepted (f a))) × (after ≡ left (and_then x (λ a. accepted (g a))) before)
+      (said (Ok n) ≡ and_then x (λ a. accepted (f a))) × (after ≡ left (and_then x (λ a. accepted (g a))) before)
   done_accepted e h k = (rw (e, h), rw (e, k))

@@ -2,12 +2,11 @@
 use Prim.Native.Nat.{ℕ, ◌/◌, ◌%◌, ◌^◌, ◌<◌}
 use mathlib.Core.Path.{◌≡◌, refl, sym, ap, ◌∙◌}
 use native.Mathlib.Omega.{arith}
+use Rattle.std.specs.Prelude.{Result, Ok, Err}
 use Rattle.refusal.specs.Answer.{Answer, accepted, refused, and_then}
 use Rattle.refusal.specs.Result.{Gives}
 use Rattle.refusal.specs.Refusal.{refusal, checked, said}
 use Rattle.refusal.specs.Word.{word, answer_word, plain_word}
-use Rattle.refusal.specs.declared.Check.{Check}
-use Rattle.refusal.specs.declared.Check.TheVariants.{Passed, Refused}
 use Rattle.refusal.specs.declared.Refusal.{Refusal}
 use Rattle.refusal.proofs.Numbered.{numbered}
 
@@ -21,13 +20,13 @@ words_tell n p q hn hp hq = (omega arith, omega arith, omega arith)
 pub word_refusal : (A : Type 0) {B : Type 0} (r : Refusal) (f g : B → ℕ) → plain_word {A = A} (refusal r) ≡ answer_word {A = B} f g (refusal r)
 word_refusal A {B} r f g = let n = numbered r in rw (n.3 A, n.3 B)
 
-word_checked : {A : Type 0} (a : A) (c : Check) → plain_word (said c) ≡ plain_word (checked a c)
-word_checked a Passed = refl
-word_checked a (Refused r) = word_refusal Unit r (λ b. 0) (λ b. 0)
+word_checked : {A : Type 0} (a : A) (c : Result Unit Refusal) → plain_word (said c) ≡ plain_word (checked a c)
+word_checked a (Ok u) = refl
+word_checked a (Err r) = word_refusal Unit r (λ b. 0) (λ b. 0)
 
 -- A check's number is that of the call's answer.
 pub gives_word :
-    {A : Type 0} {due : Answer A} {before after : A} {c : Check} {w : ℕ} → Gives due before after c → w ≡ plain_word (said c) →
+    {A : Type 0} {due : Answer A} {before after : A} {c : Result Unit Refusal} {w : ℕ} → Gives due before after c → w ≡ plain_word (said c) →
     w ≡ plain_word due
 gives_word {after} {c} g e = e ∙ (word_checked after c ∙ ap plain_word g.answers)
 

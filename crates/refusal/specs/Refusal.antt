@@ -1,5 +1,5 @@
 -- The number and the two positions of each refusal, as the table "Refusal numbers" has them.
-use Rattle.std.specs.Prelude.{ℕ}
+use Rattle.std.specs.Prelude.{Result, Ok, Err}
 use Rattle.refusal.specs.Answer.{Answer, accepted, refused}
 use Rattle.refusal.specs.declared.Refusal.{Refusal}
 use Rattle.refusal.specs.declared.Refusal.TheVariants.{
@@ -21,10 +21,6 @@ use Rattle.refusal.specs.declared.Refusal.TheVariants.{
   NotNext,
   Pending,
 }
-use Rattle.refusal.specs.declared.Given.{Given}
-use Rattle.refusal.specs.declared.Given.TheVariants.{Number, Refused as NotGiven}
-use Rattle.refusal.specs.declared.Check.{Check}
-use Rattle.refusal.specs.declared.Check.TheVariants.{Passed, Refused}
 
 abbrev pub refusal : {A : Type 0} → Refusal → Answer A
 refusal Users = refused 1 0 0
@@ -45,17 +41,12 @@ refusal NotHeld = refused 15 0 0
 refusal NotNext = refused 16 0 0
 refusal Pending = refused 17 0 0
 
--- The answer of a call whose result is `a`.
-abbrev pub checked : {A : Type 0} → A → Check → Answer A
-checked a Passed = accepted a
-checked a (Refused r) = refusal r
+-- What a call says whose code gives its result or a refusal.
+abbrev pub said : {A : Type 0} → Result A Refusal → Answer A
+said (Ok a) = accepted a
+said (Err r) = refusal r
 
--- What a check says by itself.
-abbrev pub said : Check → Answer Unit
-said Passed = accepted tt
-said (Refused r) = refusal r
-
--- What a call gives whose result is a number.
-abbrev pub given : Given → Answer ℕ
-given (Number n) = accepted n
-given (NotGiven r) = refusal r
+-- The answer of a call whose result is `a`, where its code tells only whether it is refused.
+abbrev pub checked : {A : Type 0} → A → Result Unit Refusal → Answer A
+checked a (Ok u) = accepted a
+checked a (Err r) = refusal r

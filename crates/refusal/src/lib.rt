@@ -1,14 +1,14 @@
-// Refusals: why a call gives no result. One variant for each number that the layouts' paper
+// Refusals: why a call gives no result, the error of every call's `Result`. One variant for each number that the layouts' paper
 // fixes, holding the positions that the paper names for it. What number and which positions
 // a variant stands for is said once, in specs/Refusal.antt, and every contract cites that.
 //
 // Numbers 18 and 19 are kept for what is planned above this base.
 #![tactic(auto)]
 
-ghost use Rattle.std.specs.Prelude.{◌≡◌};
+ghost use Rattle.std.specs.Prelude.{◌≡◌, ℕ};
 ghost use Rattle.refusal.specs.Answer.{refused};
-ghost use Rattle.refusal.specs.Refusal.{refusal, said, given};
-ghost use Rattle.refusal.specs.Word.{word as word_of, answer_word, plain_word};
+ghost use Rattle.refusal.specs.Refusal.{refusal, said};
+ghost use Rattle.refusal.specs.Word.{word as word_of, answer_word as answer_word_of, plain_word};
 
 // The refusals, in the order of their numbers, 1 to 17.
 #[derive(Clone, Copy)]
@@ -49,20 +49,6 @@ pub enum Refusal {
     Pending,
 }
 
-// The answer of a call whose result is in a lent buffer, and of each stage of a longer one.
-#[derive(Clone, Copy)]
-pub enum Check {
-    Passed,
-    Refused(Refusal),
-}
-
-// The answer of a call that gives a number, beside what it may write into a lent buffer.
-#[derive(Clone, Copy)]
-pub enum Given {
-    Number(usize),
-    Refused(Refusal),
-}
-
 // A refusal's number and both positions.
 #[derive(Clone, Copy)]
 pub struct Told {
@@ -83,27 +69,29 @@ fn row(number: u8, first: usize, second: usize) -> Told
 }
 
 // The number and the positions of a refusal, as the paper's table has them.
-pub fn tell(r: Refusal) -> Told
-    ensures { refusal {A = Unit} r ≡ refused result.number result.first result.second }
-{
-    match r {
-        Refusal::Users => row(1, 0, 0),
-        Refusal::Length(p) => row(2, p, 0),
-        Refusal::Malformed(p) => row(3, p, 0),
-        Refusal::Unsigned(p) => row(4, p, 0),
-        Refusal::NotCurrent => row(5, 0, 0),
-        Refusal::LastVersion => row(6, 0, 0),
-        Refusal::Unordered(p, q) => row(7, p, q),
-        Refusal::WrongHash(p) => row(8, p, 0),
-        Refusal::PathLength(p) => row(9, p, 0),
-        Refusal::NoBlock => row(10, 0, 0),
-        Refusal::NotAscending(p) => row(11, p, 0),
-        Refusal::NoRoom => row(12, 0, 0),
-        Refusal::NoPlace => row(13, 0, 0),
-        Refusal::LastReference => row(14, 0, 0),
-        Refusal::NotHeld => row(15, 0, 0),
-        Refusal::NotNext => row(16, 0, 0),
-        Refusal::Pending => row(17, 0, 0),
+impl From<Refusal> for Told {
+    ghost from_gives = { λ r told. refusal {A = Unit} r ≡ refused told.number told.first told.second };
+
+    fn from(r: Refusal) -> Told {
+        match r {
+            Refusal::Users => row(1, 0, 0),
+            Refusal::Length(p) => row(2, p, 0),
+            Refusal::Malformed(p) => row(3, p, 0),
+            Refusal::Unsigned(p) => row(4, p, 0),
+            Refusal::NotCurrent => row(5, 0, 0),
+            Refusal::LastVersion => row(6, 0, 0),
+            Refusal::Unordered(p, q) => row(7, p, q),
+            Refusal::WrongHash(p) => row(8, p, 0),
+            Refusal::PathLength(p) => row(9, p, 0),
+            Refusal::NoBlock => row(10, 0, 0),
+            Refusal::NotAscending(p) => row(11, p, 0),
+            Refusal::NoRoom => row(12, 0, 0),
+            Refusal::NoPlace => row(13, 0, 0),
+            Refusal::LastReference => row(14, 0, 0),
+            Refusal::NotHeld => row(15, 0, 0),
+            Refusal::NotNext => row(16, 0, 0),
+            Refusal::Pending => row(17, 0, 0),
+        }
     }
 }
 
@@ -119,26 +107,59 @@ pub fn word(number: u8, first: usize, second: usize) -> u64
 pub fn refusal_word(r: Refusal) -> u64
     ensures { result ≡ plain_word {A = Unit} (refusal r) }
 {
-    let t = tell(r);
+    let t = Told::from(r);
     word(t.number, t.first, t.second)
 }
 
-// A check's answer as such a number.
-pub fn check_word(c: Check) -> u64
-    ensures { result ≡ plain_word (said c) }
-{
-    match c {
-        Check::Passed => 0,
-        Check::Refused(r) => refusal_word(r),
+// What a call gives besides refusing, as the two small results that its number has room for.
+pub trait Results: Copy {
+    ghost first: { Self → ℕ };
+
+    ghost second: { Self → ℕ };
+
+    fn first_result(self) -> usize
+        ensures { result ≡ first self };
+
+    fn second_result(self) -> usize
+        ensures { result ≡ second self };
+}
+
+// Nothing is told but that the call passed.
+impl Results for () {
+    ghost first = { λ _. 0 };
+
+    ghost second = { λ _. 0 };
+
+    fn first_result(self) -> usize {
+        0
+    }
+
+    fn second_result(self) -> usize {
+        0
     }
 }
 
-// The answer of a call that gives a number, as such a number: its first result.
-pub fn given_word(g: Given) -> u64
-    ensures { result ≡ answer_word (λ n. n) (λ n. 0) (given g) }
+// One number is the first result.
+impl Results for usize {
+    ghost first = { λ n. n };
+
+    ghost second = { λ _. 0 };
+
+    fn first_result(self) -> usize {
+        self
+    }
+
+    fn second_result(self) -> usize {
+        0
+    }
+}
+
+// A call's answer as such a number.
+pub fn answer_word<R: Results>(answer: Result<R, Refusal>) -> u64
+    ensures { result ≡ answer_word_of R.first R.second (said answer) }
 {
-    match g {
-        Given::Number(n) => word(0, n, 0),
-        Given::Refused(r) => refusal_word(r),
+    match answer {
+        Ok(r) => word(0, r.first_result(), r.second_result()),
+        Err(r) => refusal_word(r),
     }
 }
