@@ -10,14 +10,14 @@ mod places;
 ghost use Rattle.std.specs.Prelude.{◌≡◌, ◌≤◌, ◌<◌, length};
 ghost use Rattle.refusal.specs.Answer.{accepted, and_then};
 ghost use Rattle.refusal.specs.Order.{tried};
-ghost use Rattle.refusal.specs.Refusal.{said, given};
+ghost use Rattle.refusal.specs.Refusal.{said};
 ghost use Rattle.refusal.specs.Result.{Gives, left};
 ghost use Rattle.store.specs.Place.{store_size};
 ghost use Rattle.store.specs.Calls.{make as make_of, store as store_of, retrieve as retrieve_of, retrieve_into};
 ghost use Rattle.store.specs.Calls.{unreferenced, unreference as unreference_of, after_unreference};
 ghost use Rattle.blockstore.specs.Internal.Stages.{admit_steps, counted_once, filled_free};
 
-use refusal::{Check, Given, Refusal};
+use refusal::Refusal;
 
 // The places of a store, the bytes of each, and of all.
 const PLACES: usize = 64;
@@ -35,58 +35,58 @@ const HASH: usize = 32;
 const LAST: u16 = 65535;
 
 // Makes an empty store of 526,464 lent bytes: all of them zero.
-pub fn make(store: &mut [u8]) -> Check
+pub fn make(store: &mut [u8]) -> Result<(), Refusal>
     ensures { Gives (make_of store.old) store.old store.new result }
 {
     if store.len() != SIZE {
-        return Check::Refused(Refusal::Length(0));
+        return Err(Refusal::Length(0));
     }
     layout::clear(0, store);
-    Check::Passed
+    Ok(())
 }
 
 // The tests with which every call on a store begins, in their order: the user, the store's length and
 // the call's other length, and each place's length.
-fn admit(store: &[u8], user: u8, fits: bool) -> Check
+fn admit(store: &[u8], user: u8, fits: bool) -> Result<(), Refusal>
     ensures { said result ≡ tried (admit_steps store.now user fits) }
 {
     if 15 < user {
-        return Check::Refused(Refusal::Users);
+        return Err(Refusal::Users);
     }
     if store.len() != SIZE {
-        return Check::Refused(Refusal::Length(0));
+        return Err(Refusal::Length(0));
     }
     if !fits {
-        return Check::Refused(Refusal::Length(0));
+        return Err(Refusal::Length(0));
     }
     let p = places::first_unfit(store);
     if p < PLACES {
-        return Check::Refused(Refusal::Malformed(p));
+        return Err(Refusal::Malformed(p));
     }
-    Check::Passed
+    Ok(())
 }
 
 // One more of a user at place p, which holds the block.
-fn count_one(store: &mut [u8], p: usize, user: usize) -> Check
+fn count_one(store: &mut [u8], p: usize, user: usize) -> Result<(), Refusal>
     requires { (length store.old ≡ store_size) × (p < 64) × (user < 16) }
     ensures { Gives (counted_once store.old p user) store.old store.new result }
 {
     let n = place::count_at(store, p, user);
     if n == LAST {
-        return Check::Refused(Refusal::LastReference);
+        return Err(Refusal::LastReference);
     }
     place::recount_at(store, p, user, n + 1);
-    Check::Passed
+    Ok(())
 }
 
 // A block that is not held, in the lowest free place.
-fn fill_free(store: &mut [u8], user: usize, block: &[u8]) -> Check
+fn fill_free(store: &mut [u8], user: usize, block: &[u8]) -> Result<(), Refusal>
     requires { (length store.old ≡ store_size) × (user < 16) × (length block.now ≤ 8192) }
     ensures { Gives (filled_free store.old user block.now) store.old store.new result }
 {
     let p = places::first_free(store);
     if p == PLACES {
-        return Check::Refused(Refusal::NoPlace);
+        return Err(Refusal::NoPlace);
     }
     let at = PLACE * p;
     place::put(
@@ -96,18 +96,15 @@ fn fill_free(store: &mut [u8], user: usize, block: &[u8]) -> Check
     );
     place::recount_at(store, p, user, 1);
     place::put(store, at + place::BYTES, block);
-    Check::Passed
+    Ok(())
 }
 
 // Stores a block of at most 8,192 bytes for a user: counts it once more where its hash is held, and
 // otherwise puts it into the lowest free place. All other bytes of the store stay.
-pub fn store(store: &mut [u8], user: u8, block: &[u8]) -> Check
+pub fn store(store: &mut [u8], user: u8, block: &[u8]) -> Result<(), Refusal>
     ensures { Gives (store_of store.old user block.now) store.old store.new result }
 {
-    let c = admit(store, user, block.len() <= BLOCK);
-    let Check::Passed = c else {
-        return c;
-    };
+    admit(store, user, block.len() <= BLOCK)?;
     let mut hash = [0u8; 32];
     sha256::sha256(block, &mut hash);
     let p = places::place_of(store, &hash);
@@ -119,25 +116,22 @@ pub fn store(store: &mut [u8], user: u8, block: &[u8]) -> Check
 
 // Copies the block of a hash to the front of `out`, and keeps the bytes after it. Gives its length.
 // The store is only read.
-pub fn retrieve(store: &[u8], hash: &[u8], out: &mut [u8]) -> Given
-    ensures answers { given result ≡ and_then (retrieve_of store.now hash.now (length out.old))
+pub fn retrieve(store: &[u8], hash: &[u8], out: &mut [u8]) -> Result<usize, Refusal>
+    ensures answers { said result ≡ and_then (retrieve_of store.now hash.now (length out.old))
         (λ b. accepted (length b)) }
     ensures leaves { out.new ≡ left (retrieve_into store.now hash.now out.old) out.old }
 {
-    let c = admit(store, 0, hash.len() == HASH);
-    if let Check::Refused(r) = c {
-        return Given::Refused(r);
-    }
+    admit(store, 0, hash.len() == HASH)?;
     let p = places::place_of(store, hash);
     if p == PLACES {
-        return Given::Refused(Refusal::NotHeld);
+        return Err(Refusal::NotHeld);
     }
     let at = PLACE * p;
     let block = place::block(&store[at..at + PLACE]);
     if out.len() < block.len() {
-        return Given::Refused(Refusal::NoRoom);
+        return Err(Refusal::NoRoom);
     }
-    Given::Number(layout::copy(block, out))
+    Ok(layout::copy(block, out))
 }
 
 // Takes one from a user's count at place p, or does nothing at zero. Gives how many it took.
@@ -156,17 +150,14 @@ fn uncount_one(store: &mut [u8], p: usize, user: usize) -> usize
 
 // Takes one from a user's count of a hash; where it is 0, nothing is done. Gives how many it took. All
 // other bytes of the store stay, also those of a place that nobody counts any more.
-pub fn unreference(store: &mut [u8], user: u8, hash: &[u8]) -> Given
-    ensures answers { given result ≡ and_then (unreference_of store.old user hash.now) (λ t. accepted t.took) }
+pub fn unreference(store: &mut [u8], user: u8, hash: &[u8]) -> Result<usize, Refusal>
+    ensures answers { said result ≡ and_then (unreference_of store.old user hash.now) (λ t. accepted t.took) }
     ensures leaves { store.new ≡ left (after_unreference store.old user hash.now) store.old }
 {
-    let c = admit(store, user, hash.len() == HASH);
-    if let Check::Refused(r) = c {
-        return Given::Refused(r);
-    }
+    admit(store, user, hash.len() == HASH)?;
     let p = places::place_of(store, hash);
     if p == PLACES {
-        return Given::Refused(Refusal::NotHeld);
+        return Err(Refusal::NotHeld);
     }
-    Given::Number(uncount_one(store, p, user as usize))
+    Ok(uncount_one(store, p, user as usize))
 }

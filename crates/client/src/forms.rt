@@ -9,7 +9,7 @@ ghost use Rattle.protocol.specs.List.{records as records_of, well_placed};
 ghost use Rattle.protocol.specs.Check.{remembers, form_steps};
 
 use crate::records;
-use refusal::{Check, Refusal};
+use refusal::Refusal;
 use version::SIZE;
 
 // Whether record i is well formed and its owner above the one before.
@@ -55,7 +55,7 @@ fn first_unmarked(marks: &[u8]) -> usize
     marks.len()
 }
 
-pub(crate) fn forms(users: u8, list: &[u8], marks: &[u8]) -> Check
+pub(crate) fn forms(users: u8, list: &[u8], marks: &[u8]) -> Result<(), Refusal>
     requires { length marks.now ≡ records_of list.now }
     ensures { (user : ℕ) (held : List ℕ) → remembers users user held ≡ true →
         said result ≡ tried (form_steps users user held list.now marks.now) }
@@ -63,11 +63,11 @@ pub(crate) fn forms(users: u8, list: &[u8], marks: &[u8]) -> Check
     let count = marks.len();
     let misplaced = first_misplaced(users, list, count);
     if misplaced != count {
-        return Check::Refused(Refusal::Malformed(misplaced));
+        return Err(Refusal::Malformed(misplaced));
     }
     let unmarked = first_unmarked(marks);
     if unmarked != count {
-        return Check::Refused(Refusal::Unsigned(unmarked));
+        return Err(Refusal::Unsigned(unmarked));
     }
-    Check::Passed
+    Ok(())
 }

@@ -11,7 +11,7 @@ ghost use Rattle.version.specs.Version.{fields, count_in};
 ghost use Rattle.client.specs.Internal.Stages.{none, is_before, goes_on, Orders};
 
 use crate::{Verdict, records};
-use refusal::{Check, Refusal};
+use refusal::Refusal;
 use version::{SIZE, Standing, Version};
 
 // The place of the user's record in the list; the number of records if there is none.
@@ -106,7 +106,7 @@ fn strictly_before(x: [u32; 16], y: [u32; 16]) -> bool
 }
 
 // Whether all pairs are ordered: the records with each other, and each with a structure of the counts `next`.
-fn pairs(list: &[u8], next: [u32; 16]) -> Check
+fn pairs(list: &[u8], next: [u32; 16]) -> Result<(), Refusal>
     requires list_value { size * records_of list.now ≡ length list.now }
     requires list_bound { records_of list.now ≤ 16 }
     ensures { (new : ℕ → ℕ) → next ≡ values new 0 16 → said result ≡ tried (pair_step list.now new ∷ []) }
@@ -139,9 +139,9 @@ fn pairs(list: &[u8], next: [u32; 16]) -> Check
         i += 1;
     }
     if i < n {
-        return Check::Refused(Refusal::Unordered(i, j));
+        return Err(Refusal::Unordered(i, j));
     }
-    Check::Passed
+    Ok(())
 }
 
 // The third stage's verdict, and the counts of the next structure: sixteen zeros unless the verdict is `Next`.
@@ -180,7 +180,7 @@ pub(crate) fn order(user: u8, held: &[u8], pending: bool, list: &[u8]) -> Ordere
     }
     let counts = crate::next::counts(user, held, list);
     let answer = pairs(list, counts);
-    if let Check::Refused(r) = answer {
+    if let Err(r) = answer {
         return Ordered {
             verdict: Verdict::Refused(r),
             counts: [0u32; 16],

@@ -4,24 +4,24 @@ ghost use Rattle.refusal.specs.Order.{tried};
 ghost use Rattle.refusal.specs.Refusal.{said};
 ghost use Rattle.protocol.specs.Check.{size_steps};
 
-use refusal::{Check, Refusal};
+use refusal::Refusal;
 use version::SIZE;
 
-pub(crate) fn sizes(users: u8, user: u8, list: &[u8], marks: &[u8]) -> Check
+pub(crate) fn sizes(users: u8, user: u8, list: &[u8], marks: &[u8]) -> Result<(), Refusal>
     ensures { said result ≡ tried (size_steps users user [] list.now marks.now) }
 {
     if !version::is_user(users, user) {
-        return Check::Refused(Refusal::Users);
+        return Err(Refusal::Users);
     }
     let records = list.len() / SIZE;
     if SIZE * records != list.len() {
-        return Check::Refused(Refusal::Length(0));
+        return Err(Refusal::Length(0));
     }
     if (users as usize) < records {
-        return Check::Refused(Refusal::Length(0));
+        return Err(Refusal::Length(0));
     }
     if marks.len() != records {
-        return Check::Refused(Refusal::Length(0));
+        return Err(Refusal::Length(0));
     }
-    Check::Passed
+    Ok(())
 }

@@ -7,7 +7,7 @@ ghost use Rattle.protocol.specs.Check.{remembers};
 ghost use Rattle.protocol.specs.Create.{count_steps};
 ghost use Rattle.protocol.specs.Meaning.{Users};
 
-use refusal::{Check, Refusal};
+use refusal::Refusal;
 
 // Whether the counts of the users from `from` to 15 are all 0, asked from the last user down to `from`.
 fn zero_from(counts: &[u32], from: usize) -> bool
@@ -26,23 +26,23 @@ fn zero_from(counts: &[u32], from: usize) -> bool
 }
 
 // The next own count is taken as a number of 64 bits, so that one more than the last one is not 0.
-pub(crate) fn counts(users: u8, user: u8, memory: &[u8], counts: &[u32]) -> Check
+pub(crate) fn counts(users: u8, user: u8, memory: &[u8], counts: &[u32]) -> Result<(), Refusal>
     requires users { Users users user }
     requires counts_len { length counts.now ≡ 16 }
     requires memory_value { remembers users user memory.now ≡ true }
     ensures { said result ≡ tried (count_steps users user memory.now counts.now) }
 {
     if !zero_from(counts, users as usize) {
-        return Check::Refused(Refusal::Malformed(0));
+        return Err(Refusal::Malformed(0));
     }
     let own = version::count(memory, user);
     let next = own as u64 + 1;
     let new = counts[user as usize] as u64;
     if own == 4294967295 {
-        return Check::Refused(Refusal::LastVersion);
+        return Err(Refusal::LastVersion);
     }
     if new != next {
-        return Check::Refused(Refusal::NotNext);
+        return Err(Refusal::NotNext);
     }
-    Check::Passed
+    Ok(())
 }

@@ -4,23 +4,23 @@ ghost use Rattle.refusal.specs.Order.{tried};
 ghost use Rattle.refusal.specs.Refusal.{said};
 ghost use Rattle.protocol.specs.Create.{length_steps};
 
-use refusal::{Check, Refusal};
+use refusal::Refusal;
 use version::SIZE;
 
-pub(crate) fn lengths(users: u8, user: u8, counts: &[u32], handle: &[u8], room: usize) -> Check
+pub(crate) fn lengths(users: u8, user: u8, counts: &[u32], handle: &[u8], room: usize) -> Result<(), Refusal>
     ensures { said result ≡ tried (length_steps users user [] counts.now handle.now room) }
 {
     if !version::is_user(users, user) {
-        return Check::Refused(Refusal::Users);
+        return Err(Refusal::Users);
     }
     if counts.len() != 16 {
-        return Check::Refused(Refusal::Length(0));
+        return Err(Refusal::Length(0));
     }
     if handle.len() != 32 {
-        return Check::Refused(Refusal::Length(0));
+        return Err(Refusal::Length(0));
     }
     if room != SIZE {
-        return Check::Refused(Refusal::Length(0));
+        return Err(Refusal::Length(0));
     }
-    Check::Passed
+    Ok(())
 }

@@ -16,7 +16,7 @@ ghost use Rattle.std.specs.Prelude.{length};
 ghost use Rattle.protocol.specs.MemoryFile.{create_file};
 ghost use Rattle.refusal.specs.Result.{Gives};
 
-use refusal::Check;
+use refusal::Refusal;
 
 // The next version structure of `user`, of `users` users, with these sixteen counts.
 //
@@ -31,23 +31,14 @@ pub fn create(
     counts: &[u32],
     handle: &[u8],
     out: &mut [u8],
-) -> Check
+) -> Result<(), Refusal>
     ensures { Gives
         (create_file users user file.now counts.now handle.now (length out.old))
         out.old out.new result }
 {
-    let l = lengths::lengths(users, user, counts, handle, out.len());
-    let Check::Passed = l else {
-        return l;
-    };
-    let f = memory::given::given(users, user, file);
-    let Check::Passed = f else {
-        return f;
-    };
-    let c = counts::counts(users, user, memory::held(file), counts);
-    let Check::Passed = c else {
-        return c;
-    };
+    lengths::lengths(users, user, counts, handle, out.len())?;
+    memory::given::given(users, user, file)?;
+    counts::counts(users, user, memory::held(file), counts)?;
     record::write(user, handle, counts, out);
-    Check::Passed
+    Ok(())
 }

@@ -6,7 +6,7 @@
 
 mod stream;
 
-use report::{MOST, Printed};
+use report::MOST;
 
 fn main(rt: HostRuntime) {
     // One byte more than the longest input of the stated form, so that a longer one is seen to be.
@@ -15,7 +15,7 @@ fn main(rt: HostRuntime) {
     // No output is longer, so none is refused.
     let mut output = [0u8; MOST];
     let printed = report::print(&input[..n], &mut output);
-    if let Printed::Bytes(k) = printed {
+    if let Ok(k) = printed {
         stream::write(&mut rt.stdout(), &output[..k]);
     }
 }

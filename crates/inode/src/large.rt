@@ -7,7 +7,7 @@ ghost use Rattle.itable.specs.LargeInode.{zero_exactly, indirect_formed, large_i
 ghost use Rattle.inode.specs.Internal.Reading.{read_steps};
 
 use crate::{COUNT, HASH, HASHES};
-use refusal::{Check, Refusal};
+use refusal::Refusal;
 
 // The inode's bytes, its kind, the blocks that a file has at most, and where the indirect block's
 // hash stands, up to the inode's end.
@@ -44,13 +44,10 @@ fn zero_exactly(inode: &[u8]) -> bool
 }
 
 // The tests of the inode, in their order.
-pub(crate) fn inode_check(handle: &[u8], inode: &[u8]) -> Check
+pub(crate) fn inode_check(handle: &[u8], inode: &[u8]) -> Result<(), Refusal>
     ensures { said result ≡ tried (large_inode_steps handle.now inode.now) }
 {
-    let c = crate::kind_check(handle, inode, SIZE, KIND, MOST);
-    if let Check::Refused(r) = c {
-        return Check::Refused(r);
-    }
+    crate::kind_check(handle, inode, SIZE, KIND, MOST)?;
     crate::form_check(zero_exactly(inode), 0)
 }
 
@@ -71,34 +68,28 @@ fn indirect_formed(len: usize, indirect: &[u8]) -> bool
 }
 
 // The tests of the indirect block, in their order.
-fn indirect_check(inode: &[u8], len: usize, indirect: &[u8]) -> Check
+fn indirect_check(inode: &[u8], len: usize, indirect: &[u8]) -> Result<(), Refusal>
     requires { (length inode.now ≡ 549) × (len ≡ file_length inode.now) × (131072 ≤ len) × (len < 4294967296) }
     ensures { said result ≡ tried (indirect_steps inode.now indirect.now) }
 {
-    let c = crate::named(indirect, INDIRECT_SIZE, &inode[LAST_HASH..SIZE], PLACE);
-    if let Check::Refused(r) = c {
-        return Check::Refused(r);
-    }
+    crate::named(indirect, INDIRECT_SIZE, &inode[LAST_HASH..SIZE], PLACE)?;
     crate::form_check(indirect_formed(len, indirect), PLACE)
 }
 
 // The tests of what block k is read from, in their order: a direct read has the inode's hash and no
 // indirect block, any other has the indirect block and its hash; then those of the block.
-pub(crate) fn read_check(inode: &[u8], len: usize, k: usize, indirect: &[u8], block: &[u8]) -> Check
+pub(crate) fn read_check(inode: &[u8], len: usize, k: usize, indirect: &[u8], block: &[u8]) -> Result<(), Refusal>
     requires { (length inode.now ≡ 549) × (len ≡ file_length inode.now) × (len ≤ 1179648) × (8192 * k < len) }
     ensures { said result ≡ tried (read_steps inode.now len k indirect.now block.now) }
 {
     if k < COUNT {
         if indirect.len() != 0 {
-            return Check::Refused(Refusal::Length(PLACE));
+            return Err(Refusal::Length(PLACE));
         }
         let at = HASHES + HASH * k;
         return crate::file_block_check(len, k, &inode[at..at + HASH], block);
     }
-    let c = indirect_check(inode, len, indirect);
-    if let Check::Refused(r) = c {
-        return Check::Refused(r);
-    }
+    indirect_check(inode, len, indirect)?;
     let at = INDIRECT_HASHES + HASH * (k - COUNT);
     crate::file_block_check(len, k, &indirect[at..at + HASH], block)
 }

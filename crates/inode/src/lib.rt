@@ -16,7 +16,7 @@ ghost use Rattle.inode.specs.Spanned.{answer_of};
 ghost use Rattle.inode.specs.Internal.Named.{named_steps, form_steps};
 ghost use Rattle.inode.specs.Internal.Fitting.{hashes_fit, kind_steps};
 
-use refusal::{Check, Refusal};
+use refusal::Refusal;
 
 // The bytes of a hash, and of a file's block that is not the last.
 const HASH: usize = 32;
@@ -97,65 +97,62 @@ fn hashes_fit(inode: &[u8], kind: u8, most: usize) -> bool
 }
 
 // The tests of bytes that a hash names, in their order: their size, then their hash.
-fn named(b: &[u8], size: usize, hash: &[u8], place: usize) -> Check
+fn named(b: &[u8], size: usize, hash: &[u8], place: usize) -> Result<(), Refusal>
     requires { size ≤ 65536 }
     ensures { said result ≡ tried (named_steps size hash.now place b.now) }
 {
     if b.len() != size {
-        return Check::Refused(Refusal::Length(place));
+        return Err(Refusal::Length(place));
     }
     if !sha256::is_hash(b, hash) {
-        return Check::Refused(Refusal::WrongHash(place));
+        return Err(Refusal::WrongHash(place));
     }
-    Check::Passed
+    Ok(())
 }
 
 // The test of a form, of what stands at a place.
-fn form_check(formed: bool, place: usize) -> Check
+fn form_check(formed: bool, place: usize) -> Result<(), Refusal>
     ensures { said result ≡ tried (form_steps formed place) }
 {
     if !formed {
-        return Check::Refused(Refusal::Malformed(place));
+        return Err(Refusal::Malformed(place));
     }
-    Check::Passed
+    Ok(())
 }
 
 // The tests of an inode of this size and kind, whose file has this many blocks at most, in their
 // order: the handle names it, and its own hashes fit.
-fn kind_check(handle: &[u8], inode: &[u8], size: usize, kind: u8, most: usize) -> Check
+fn kind_check(handle: &[u8], inode: &[u8], size: usize, kind: u8, most: usize) -> Result<(), Refusal>
     requires { (size ≤ 65536) × (most ≤ 65536) }
     ensures { said result ≡ tried (kind_steps size kind most handle.now inode.now) }
 {
     if handle.len() != HASH {
-        return Check::Refused(Refusal::Length(0));
+        return Err(Refusal::Length(0));
     }
-    let c = named(inode, size, handle, 0);
-    if let Check::Refused(r) = c {
-        return Check::Refused(r);
-    }
+    named(inode, size, handle, 0)?;
     form_check(hashes_fit(inode, kind, most), 0)
 }
 
 // The tests of the inode, in their order.
-fn inode_check(handle: &[u8], inode: &[u8]) -> Check
+fn inode_check(handle: &[u8], inode: &[u8]) -> Result<(), Refusal>
     ensures { said result ≡ tried (inode_steps handle.now inode.now) }
 {
     kind_check(handle, inode, SIZE, KIND, COUNT)
 }
 
 // The test of the index k, by the file's length.
-fn index_check(len: usize, k: usize) -> Check
+fn index_check(len: usize, k: usize) -> Result<(), Refusal>
     requires { len < 4294967296 }
     ensures { said result ≡ tried (index_steps len k) }
 {
     if file_blocks(len) <= k {
-        return Check::Refused(Refusal::NoBlock);
+        return Err(Refusal::NoBlock);
     }
-    Check::Passed
+    Ok(())
 }
 
 // The tests of block k, in their order, under the hash that names it.
-fn file_block_check(len: usize, k: usize, hash: &[u8], block: &[u8]) -> Check
+fn file_block_check(len: usize, k: usize, hash: &[u8], block: &[u8]) -> Result<(), Refusal>
     requires { 8192 * k ≤ len }
     ensures { said result ≡ tried (block_steps len k hash.now block.now) }
 {
@@ -168,18 +165,18 @@ pub fn block_check(handle: &[u8], inode: &[u8], k: u32, block: &[u8]) -> Spanned
     ensures { answer_of result ≡ block_check handle.now inode.now k block.now }
 {
     let c = inode_check(handle, inode);
-    if let Check::Refused(r) = c {
+    if let Err(r) = c {
         return Spanned::Refused(r);
     }
     let len = file_length(inode);
     let i = k as usize;
     let d = index_check(len, i);
-    if let Check::Refused(r) = d {
+    if let Err(r) = d {
         return Spanned::Refused(r);
     }
     let at = HASHES + HASH * i;
     let e = file_block_check(len, i, &inode[at..at + HASH], block);
-    if let Check::Refused(r) = e {
+    if let Err(r) = e {
         return Spanned::Refused(r);
     }
     Spanned::Span(BLOCK * i, block.len())
@@ -199,17 +196,17 @@ pub fn large_block_check(
     ensures { answer_of result ≡ large_check handle.now inode.now k indirect.now block.now }
 {
     let c = large::inode_check(handle, inode);
-    if let Check::Refused(r) = c {
+    if let Err(r) = c {
         return Spanned::Refused(r);
     }
     let len = file_length(inode);
     let i = k as usize;
     let d = index_check(len, i);
-    if let Check::Refused(r) = d {
+    if let Err(r) = d {
         return Spanned::Refused(r);
     }
     let e = large::read_check(inode, len, i, indirect, block);
-    if let Check::Refused(r) = e {
+    if let Err(r) = e {
         return Spanned::Refused(r);
     }
     let offset = BLOCK * i;

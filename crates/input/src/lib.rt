@@ -14,7 +14,7 @@ ghost use Rattle.input.specs.Report.{Judgement, sixteen, answered, judgement, Re
 
 use client::Verdict;
 use protocol::RECORDS;
-use refusal::{Check, Refusal};
+use refusal::Refusal;
 use version::SIZE;
 
 // Where the handle, the flag and the remembered structure stand, the place after that structure, and the
@@ -102,11 +102,11 @@ fn take_apart(sent: &[u8], n: usize, marks: &mut [u8], list: &mut [u8])
 }
 
 // The report of a call's answer, given what the making step left in the buffer of the new structure.
-fn tell(users: u8, user: u8, answer: Check, new: &[u8]) -> Report
+fn tell(users: u8, user: u8, answer: Result<(), Refusal>, new: &[u8]) -> Report
     ensures { Reports (Judgement.answer (and_then (checked_of new.now answer) (λ s. accepted (sixteen s)))) users user result }
 {
     match answer {
-        Check::Passed => {
+        Ok(()) => {
             let counts = version::counts(new);
             Report {
                 outcome: Outcome::Accepted,
@@ -115,7 +115,7 @@ fn tell(users: u8, user: u8, answer: Check, new: &[u8]) -> Report
                 counts,
             }
         }
-        Check::Refused(refusal) => Report {
+        Err(refusal) => Report {
             outcome: Outcome::Refused(refusal),
             users,
             user,
@@ -149,8 +149,8 @@ fn ask(input: &[u8], start: usize, list: &[u8], marks: &[u8]) -> Report
             let made = create::create(users, user, &file, &counts, &input[HANDLE..FLAG], &mut new);
             tell(users, user, made, &new)
         }
-        Verdict::Again => tell(users, user, Check::Refused(Refusal::NotCurrent), &file),
-        Verdict::Refused(refusal) => tell(users, user, Check::Refused(refusal), &file),
+        Verdict::Again => tell(users, user, Err(Refusal::NotCurrent), &file),
+        Verdict::Refused(refusal) => tell(users, user, Err(refusal), &file),
     }
 }
 

@@ -18,7 +18,7 @@ ghost use Rattle.itable.specs.ManyMeaning.{ManySizes};
 ghost use Rattle.many.specs.Outcome.{answer_of};
 ghost use Rattle.many.specs.Internal.Judged.{Judged};
 
-use refusal::{Check, Refusal};
+use refusal::Refusal;
 
 // The most questions of a call, and the bytes of an answer.
 const QUESTIONS: usize = 64;
@@ -102,7 +102,7 @@ fn judge(handle: &[u8], numbers: &[u64], counts: &[u8], paths: &[u8]) -> Outcome
         let n = wide(counts[q]);
         let asked = walk::ask(handle, numbers[q], paths, first, n, known);
         let answer = asked.answer;
-        if let Check::Refused(r) = answer {
+        if let Err(r) = answer {
             return Outcome::Refused(q, r);
         }
         known = asked.known;

@@ -10,19 +10,19 @@ ghost use Rattle.many.specs.Internal.Walk.{path_from, Consulted, Says};
 
 use crate::Known;
 use itable::Link;
-use refusal::{Check, Refusal};
+use refusal::Refusal;
 
 // What a question's lookup says, and what is known of blocks after it.
 #[derive(Drop)]
 pub(crate) struct Asked {
-    pub answer: Check,
+    pub answer: Result<(), Refusal>,
     pub known: [Known; 3],
 }
 
 // One block: the lookup ends there, accepted or not, or goes on along a slot.
 #[derive(Drop)]
 enum Step {
-    Ends(Check),
+    Ends(Result<(), Refusal>),
     Leads(u8),
 }
 
@@ -61,16 +61,16 @@ fn consult(link: Link, b: &[u8], number: u64, left: usize, d: usize) -> Step
     ensures { Consulted b.now link number left d result }
 {
     if !block::well_formed(link, b) {
-        return Step::Ends(Check::Refused(Refusal::Malformed(d)));
+        return Step::Ends(Err(Refusal::Malformed(d)));
     }
     let n = leads(b, number);
     if 0 < n {
         return Step::Leads(n - 1);
     }
     if 0 < left {
-        return Step::Ends(Check::Refused(Refusal::PathLength(d + 1)));
+        return Step::Ends(Err(Refusal::PathLength(d + 1)));
     }
-    Step::Ends(Check::Passed)
+    Step::Ends(Ok(()))
 }
 
 // Consults the n blocks of the paths from `first` on, as far as they are needed; `root` leads to the
@@ -88,7 +88,7 @@ fn walk(root: Link, number: u64, paths: &[u8], first: usize, n: usize, before: [
         let hash = link.hash;
         if !has_hash(paths, i, known[d], hash) {
             return Asked {
-                answer: Check::Refused(Refusal::WrongHash(d)),
+                answer: Err(Refusal::WrongHash(d)),
                 known,
             };
         }
@@ -107,7 +107,7 @@ fn walk(root: Link, number: u64, paths: &[u8], first: usize, n: usize, before: [
         }
     }
     Asked {
-        answer: Check::Refused(Refusal::PathLength(d)),
+        answer: Err(Refusal::PathLength(d)),
         known,
     }
 }
@@ -128,13 +128,13 @@ pub(crate) fn ask(
 {
     if n < 1 {
         return Asked {
-            answer: Check::Refused(Refusal::Length(0)),
+            answer: Err(Refusal::Length(0)),
             known,
         };
     }
     if 3 < n {
         return Asked {
-            answer: Check::Refused(Refusal::Length(0)),
+            answer: Err(Refusal::Length(0)),
             known,
         };
     }

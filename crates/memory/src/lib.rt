@@ -9,13 +9,13 @@ pub mod given;
 ghost use Rattle.std.specs.Prelude.{◌≡◌, ◌&&◌, ◌⊎◌, ◌∷◌, eqb, length, drop, replicate};
 ghost use Rattle.refusal.specs.Answer.{accepted, and_then};
 ghost use Rattle.refusal.specs.Order.{tried};
-ghost use Rattle.refusal.specs.Refusal.{said, given};
+ghost use Rattle.refusal.specs.Refusal.{said};
 ghost use Rattle.refusal.specs.Result.{Gives, left};
 ghost use Rattle.protocol.specs.Version.{size};
 ghost use Rattle.protocol.specs.MemoryFile.{file_size, state as state_of, held as held_of, formed as formed_of, own_formed};
 ghost use Rattle.protocol.specs.MemoryFile.{file_of, file_steps, over as over_of, back as back_of, back_into, sent as sent_by, pend as pend_of};
 
-use refusal::{Check, Given, Refusal};
+use refusal::Refusal;
 use version::SIZE;
 
 // A file's length.
@@ -131,80 +131,68 @@ fn both(a: bool, b: bool) -> bool
 
 // The tests with which every call that writes begins, in their order: the users, the lengths, and the form
 // of what is given.
-fn judge(users: u8, user: u8, long: bool, good: bool) -> Check
+fn judge(users: u8, user: u8, long: bool, good: bool) -> Result<(), Refusal>
     ensures { said result ≡ tried (file_steps users user long good) }
 {
     if !version::is_user(users, user) {
-        return Check::Refused(Refusal::Users);
+        return Err(Refusal::Users);
     }
     if !long {
-        return Check::Refused(Refusal::Length(0));
+        return Err(Refusal::Length(0));
     }
     if !good {
-        return Check::Refused(Refusal::Malformed(16));
+        return Err(Refusal::Malformed(16));
     }
-    Check::Passed
+    Ok(())
 }
 
 // Moves what was remembered before there were files, no bytes or one structure (98 bytes), over into a file
 // (100 bytes): none, or sent. The caller owns every buffer. Refused, with the first refusal of its order: no
 // byte of a buffer is changed. Any lengths and any bytes are taken. Both hold for the calls below too.
-pub fn over(users: u8, user: u8, old: &[u8], out: &mut [u8]) -> Check
+pub fn over(users: u8, user: u8, old: &[u8], out: &mut [u8]) -> Result<(), Refusal>
     ensures { Gives (over_of users user old.now (length out.old)) out.old out.new result }
 {
     let long = both(version::none_or_one(old.len()), out.len() == FILE);
-    let c = judge(users, user, long, version::remembered(users, user, old));
-    let Check::Passed = c else {
-        return c;
-    };
+    judge(users, user, long, version::remembered(users, user, old))?;
     let file = file_of(old);
     layout::copy(&file, out);
-    Check::Passed
+    Ok(())
 }
 
 // Moves a file back into what was remembered before: writes its structure to `out` (98 bytes), or nothing in
 // state none, and gives how many bytes it wrote. Refused while the file is pending.
-pub fn back(users: u8, user: u8, file: &[u8], out: &mut [u8]) -> Given
-    ensures answers { given result ≡ and_then (back_of users user file.now (length out.old))
+pub fn back(users: u8, user: u8, file: &[u8], out: &mut [u8]) -> Result<usize, Refusal>
+    ensures answers { said result ≡ and_then (back_of users user file.now (length out.old))
         (λ old. accepted (length old)) }
     ensures leaves { out.new ≡ left (back_into users user file.now out.old) out.old }
 {
     let long = both(file.len() == FILE, out.len() == SIZE);
-    let c = judge(users, user, long, formed(users, user, file));
-    if let Check::Refused(r) = c {
-        return Given::Refused(r);
-    }
+    judge(users, user, long, formed(users, user, file))?;
     if pending(file) {
-        return Given::Refused(Refusal::Pending);
+        return Err(Refusal::Pending);
     }
     let n = layout::copy(held(file), out);
-    Given::Number(n)
+    Ok(n)
 }
 
 // Marks a file as sent where it is pending: its state alone is changed, to 0. Any other file stays as it is.
-pub fn sent(users: u8, user: u8, file: &mut [u8]) -> Check
+pub fn sent(users: u8, user: u8, file: &mut [u8]) -> Result<(), Refusal>
     ensures { Gives (sent_by users user file.old) file.old file.new result }
 {
-    let c = judge(users, user, file.len() == FILE, formed(users, user, file));
-    let Check::Passed = c else {
-        return c;
-    };
+    judge(users, user, file.len() == FILE, formed(users, user, file))?;
     if !pending(file) {
-        return Check::Passed;
+        return Ok(());
     }
     layout::clear(0, &mut file[STATE..STRUCTURE]);
-    Check::Passed
+    Ok(())
 }
 
 // Writes the pending file (100 bytes) of a structure (98 bytes) that the user has made.
-pub fn pend(users: u8, user: u8, x: &[u8], out: &mut [u8]) -> Check
+pub fn pend(users: u8, user: u8, x: &[u8], out: &mut [u8]) -> Result<(), Refusal>
     ensures { Gives (pend_of users user x.now (length out.old)) out.old out.new result }
 {
     let long = both(x.len() == SIZE, out.len() == FILE);
-    let c = judge(users, user, long, own(users, user, x));
-    let Check::Passed = c else {
-        return c;
-    };
+    judge(users, user, long, own(users, user, x))?;
     lay(PENDING, x, out);
-    Check::Passed
+    Ok(())
 }

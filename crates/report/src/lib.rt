@@ -18,27 +18,20 @@ use refusal::Refusal;
 // The bytes that are enough for any output.
 pub const MOST: usize = 393;
 
-// What printing gives: how many bytes were written, or why none were.
-#[derive(Clone, Copy)]
-pub enum Printed {
-    Bytes(usize),
-    Refused(Refusal),
-}
-
 // Writes what is said of the input to the front of `out`, and keeps the bytes after it. Refused
 // where `out` is too short for it, and then all of `out` is kept; 393 bytes are enough for any input.
 //
 // Any bytes of any length are taken, and nothing is kept.
-pub fn print(input: &[u8], out: &mut [u8]) -> Printed
-    ensures answers { printed_as result ≡ printed_given input.now (length out.old) }
+pub fn print(input: &[u8], out: &mut [u8]) -> Result<usize, Refusal>
+    ensures answers { said result ≡ printed_given input.now (length out.old) }
     ensures leaves { out.new ≡ left (printing input.now out.old) out.old }
     ensures short { length (printed input.now) ≤ 393 }
 {
     let mut text = [0u8; MOST];
     let n = lines::report(input::judge(input), &mut text);
     if out.len() < n {
-        return Printed::Refused(Refusal::NoRoom);
+        return Err(Refusal::NoRoom);
     }
     layout::copy(&text[..n], out);
-    Printed::Bytes(n)
+    Ok(n)
 }

@@ -39,7 +39,7 @@ fn refuse(refusal: Refusal, out: &mut [u8], at: usize) -> usize
     ensures by_index { (N : ℕ) → Appended out.old at (answer_line N (refusal_of refusal)) out.new result }
     ensures upper_bound { result ≤ at + 70 }
 {
-    let told = refusal::tell(refusal);
+    let told = Told::from(refusal);
     let word = text::put(b"refuse", out, at);
     let number = text::number(told.number as u64, out, word);
     let first = text::number(told.first as u64, out, number);

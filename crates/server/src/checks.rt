@@ -9,20 +9,20 @@ ghost use Rattle.protocol.specs.Server.{make_steps, follows as follows_of, commi
 ghost use Rattle.version.specs.Version.{fields, count_in};
 
 use crate::held;
-use refusal::{Check, Refusal};
+use refusal::Refusal;
 use version::{SIZE, Standing};
 
 // The refusal of a number of users.
-pub(crate) fn make_check(users: u8) -> Check
+pub(crate) fn make_check(users: u8) -> Result<(), Refusal>
     ensures { said result ≡ tried (make_steps users) }
 {
     if users < 1 {
-        return Check::Refused(Refusal::Users);
+        return Err(Refusal::Users);
     }
     if 16 < users {
-        return Check::Refused(Refusal::Users);
+        return Err(Refusal::Users);
     }
-    Check::Passed
+    Ok(())
 }
 
 // Whether nothing is held of user v, whose own count this is, or what is held is strictly before the
@@ -83,28 +83,28 @@ fn is_next(own: u32, held: u32) -> bool
 }
 
 // The refusals of a commit: length, form, mark, own count, order.
-pub(crate) fn commit_check(users: u8, records: &[u8], x: &[u8], mark: u8) -> Check
+pub(crate) fn commit_check(users: u8, records: &[u8], x: &[u8], mark: u8) -> Result<(), Refusal>
     requires { length records.now ≡ 1568 }
     ensures { said result ≡ tried (commit_steps (record { users = users; records = records.now }) x.now mark) }
 {
     if x.len() != SIZE {
-        return Check::Refused(Refusal::Length(0));
+        return Err(Refusal::Length(0));
     }
     if !version::well_formed(users, x) {
-        return Check::Refused(Refusal::Malformed(0));
+        return Err(Refusal::Malformed(0));
     }
     if mark != 1 {
-        return Check::Refused(Refusal::Unsigned(0));
+        return Err(Refusal::Unsigned(0));
     }
     let new = version::read(x);
     let owner = new.owner as usize;
     let counts = new.counts;
     if !is_next(counts[owner], held::own_count(records, owner)) {
-        return Check::Refused(Refusal::NotCurrent);
+        return Err(Refusal::NotCurrent);
     }
     let v = first_apart(records, owner, &counts);
     if v < 16 {
-        return Check::Refused(Refusal::Unordered(v, 0));
+        return Err(Refusal::Unordered(v, 0));
     }
-    Check::Passed
+    Ok(())
 }

@@ -5,7 +5,7 @@
 #![tactic(auto)]
 
 use protocol::{RECORDS, Server};
-use refusal::{Check, Refusal};
+use refusal::Refusal;
 use version::SIZE;
 
 mod checks;
@@ -22,21 +22,14 @@ ghost use Rattle.server.specs.Commit.{commit_into};
 // What making gives: the check of the number of users, and the server's list.
 #[derive(Clone, Copy)]
 pub struct Made {
-    pub check: Check,
+    pub check: Result<(), Refusal>,
     pub server: Server,
-}
-
-// What a listing gives: how many records were written, or why none were.
-#[derive(Clone, Copy)]
-pub enum Listed {
-    Records(usize),
-    Refused(Refusal),
 }
 
 // What a commit gives: the check of the record, and the server's list after it.
 #[derive(Clone, Copy)]
 pub struct Committed {
-    pub check: Check,
+    pub check: Result<(), Refusal>,
     pub server: Server,
 }
 
@@ -53,7 +46,7 @@ pub fn make(users: u8) -> Made
     ensures { Gives (make_of users) (empty_of 1) result.server result.check }
 {
     let check = checks::make_check(users);
-    let Check::Passed = check else {
+    let Ok(()) = check else {
         let server = empty(1);
         return Made { check, server };
     };
@@ -63,16 +56,16 @@ pub fn make(users: u8) -> Made
 
 // Writes the held records, owners ascending, to the front of `out`, and keeps the bytes after
 // them. Refused where `out` is too short for them, and then all of `out` is kept.
-pub fn list(server: Server, out: &mut [u8]) -> Listed
-    ensures answers { listed_as result ≡ listed server (length out.old) }
+pub fn list(server: Server, out: &mut [u8]) -> Result<usize, Refusal>
+    ensures answers { said result ≡ listed server (length out.old) }
     ensures leaves { out.new ≡ left (listing_of server out.old) out.old }
 {
     let n = listing::number(&server.records);
     if out.len() < SIZE * n {
-        return Listed::Refused(Refusal::NoRoom);
+        return Err(Refusal::NoRoom);
     }
     listing::write(&server.records, out);
-    Listed::Records(n)
+    Ok(n)
 }
 
 // Puts the record into its owner's place.
@@ -87,16 +80,13 @@ fn replace(records: &mut [u8], x: &[u8], owner: usize)
 
 // A commit where the sixteen records are lent by themselves. Writes the record's 98 bytes if it is
 // accepted, and nothing else. Refused where the records' length is another, and as `commit` is.
-pub fn commit_into(users: u8, records: &mut [u8], x: &[u8], mark: u8) -> Check
+pub fn commit_into(users: u8, records: &mut [u8], x: &[u8], mark: u8) -> Result<(), Refusal>
     ensures { Gives (commit_into users records.old x.now mark) records.old records.new result }
 {
     if records.len() != RECORDS {
-        return Check::Refused(Refusal::Length(0));
+        return Err(Refusal::Length(0));
     }
-    let check = checks::commit_check(users, records, x, mark);
-    let Check::Passed = check else {
-        return check;
-    };
+    checks::commit_check(users, records, x, mark)?;
     replace(records, x, version::owner(x) as usize);
     check
 }

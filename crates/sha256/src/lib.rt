@@ -16,7 +16,7 @@ ghost use Rattle.std.specs.Prelude.{◌≡◌, length};
 ghost use Rattle.refusal.specs.Result.{Gives};
 ghost use Rattle.sha256.specs.Hash.{hash, is_hash};
 
-use refusal::{Check, Refusal};
+use refusal::Refusal;
 
 // The eight working variables, and a hash value's eight words.
 #[derive(Clone, Copy)]
@@ -49,17 +49,17 @@ const LONGEST: usize = 65536;
 // Writes the SHA-256 hash of `message` to `out`. Both are the caller's; the message is only read,
 // and `out` is written once, after all of the message has been read. A message of over 65,536
 // bytes, or an `out` that is not of 32, is refused by length, and `out` is then as it was.
-pub fn sha256(message: &[u8], out: &mut [u8]) -> Check
+pub fn sha256(message: &[u8], out: &mut [u8]) -> Result<(), Refusal>
     ensures { Gives (hash message.now (length out.old)) out.old out.new result }
 {
     if message.len() > LONGEST {
-        return Check::Refused(Refusal::Length(0));
+        return Err(Refusal::Length(0));
     }
     if out.len() != 32 {
-        return Check::Refused(Refusal::Length(0));
+        return Err(Refusal::Length(0));
     }
     digest::write(out, padding::hash_value(message));
-    Check::Passed
+    Ok(())
 }
 
 // Whether `wanted` is the SHA-256 hash of `message`, all its 32 bytes. Both are only read. Of a

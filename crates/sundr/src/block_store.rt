@@ -9,7 +9,7 @@ pub fn sundr_store_make(store: &mut [u8]) -> u64
     ensures answer { result ≡ plain_word (make store.old) }
     ensures buffer { store.new ≡ left (make store.old) store.old }
 {
-    refusal::check_word(blockstore::make(store))
+    refusal::answer_word(blockstore::make(store))
 }
 
 // A block stored for a user.
@@ -17,7 +17,7 @@ pub fn sundr_store(store: &mut [u8], user: u8, block: &[u8]) -> u64
     ensures answer { result ≡ plain_word (store_of store.old user block.now) }
     ensures buffer { store.new ≡ left (store_of store.old user block.now) store.old }
 {
-    refusal::check_word(blockstore::store(store, user, block))
+    refusal::answer_word(blockstore::store(store, user, block))
 }
 
 // The block of a hash, to the front of a lent buffer: the first result is its length.
@@ -25,7 +25,7 @@ pub fn sundr_retrieve(store: &[u8], hash: &[u8], out: &mut [u8]) -> u64
     ensures answer { result ≡ answer_word length (λ b. 0) (retrieve store.now hash.now (length out.old)) }
     ensures buffer { out.new ≡ left (retrieve_into store.now hash.now out.old) out.old }
 {
-    refusal::given_word(blockstore::retrieve(store, hash, out))
+    refusal::answer_word(blockstore::retrieve(store, hash, out))
 }
 
 // One taken from a user's count of a hash: the first result is 1, or 0 if there was none to take.
@@ -33,5 +33,5 @@ pub fn sundr_unreference(store: &mut [u8], user: u8, hash: &[u8]) -> u64
     ensures answer { result ≡ answer_word (λ t. t.took) (λ t. 0) (unreference store.old user hash.now) }
     ensures buffer { store.new ≡ left (after_unreference store.old user hash.now) store.old }
 {
-    refusal::given_word(blockstore::unreference(store, user, hash))
+    refusal::answer_word(blockstore::unreference(store, user, hash))
 }

@@ -9,5 +9,5 @@ pub fn sundr_sha256(message: &[u8], out: &mut [u8]) -> u64
     ensures answer { result ≡ plain_word (hash message.now (length out.old)) }
     ensures buffer { out.new ≡ left (hash message.now (length out.old)) out.old }
 {
-    refusal::check_word(sha256::sha256(message, out))
+    refusal::answer_word(sha256::sha256(message, out))
 }

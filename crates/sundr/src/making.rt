@@ -18,5 +18,5 @@ pub fn sundr_memory_create(
     ensures buffer { out.new ≡ left (create_file users user file.now counts.now handle.now
         (length out.old)) out.old }
 {
-    refusal::check_word(create::create(users, user, file, counts, handle, out))
+    refusal::answer_word(create::create(users, user, file, counts, handle, out))
 }

@@ -15,7 +15,7 @@ fn outcome_word(o: Outcome) -> u64
     match o {
         Outcome::Answered => refusal::word(0, 0, 0),
         Outcome::Refused(q, r) => {
-            let told = refusal::tell(r);
+            let told = Told::from(r);
             refusal::word(told.number, q, told.first)
         }
     }

@@ -10,8 +10,7 @@ ghost use Rattle.sundr.specs.Server.{make_at, listed_at, listing_at};
 use crate::server_bytes;
 use crate::server_bytes::SIZE;
 use protocol::{RECORDS, Server};
-use refusal::{Check, Refusal};
-use server::Listed;
+use refusal::Refusal;
 
 // An empty server's list for this number of users, into 1,569 lent bytes.
 pub fn sundr_server_make_at(users: u8, server: &mut [u8]) -> u64
@@ -23,11 +22,11 @@ pub fn sundr_server_make_at(users: u8, server: &mut [u8]) -> u64
     }
     let made = server::make(users);
     let check = made.check;
-    let Check::Passed = check else {
-        return refusal::check_word(check);
+    let Ok(()) = check else {
+        return refusal::answer_word(check);
     };
     server_bytes::write(made.server, server);
-    refusal::check_word(check)
+    refusal::answer_word(check)
 }
 
 // A listing's answer as a number: the first result is the number of records.
@@ -35,8 +34,8 @@ fn listed_word(l: Listed) -> u64
     ensures { result ≡ answer_word (λ n. n) (λ n. 0) (listed_as l) }
 {
     match l {
-        Listed::Records(n) => refusal::word(0, n, 0),
-        Listed::Refused(r) => refusal::refusal_word(r),
+        Ok(n) => refusal::word(0, n, 0),
+        Err(r) => refusal::refusal_word(r),
     }
 }
 
@@ -59,7 +58,7 @@ fn committed(users: u8, records: &mut [u8; RECORDS], x: &[u8], mark: u8) -> u64
         ≡ left (commit_of (record { users = users; records = records.old }) x.now mark)
         (record { users = users; records = records.old })) }
 {
-    refusal::check_word(server::commit_into(users, records, x, mark))
+    refusal::answer_word(server::commit_into(users, records, x, mark))
 }
 
 // Takes a client's new record into a lent server's list: its 98 bytes are written if it is accepted,

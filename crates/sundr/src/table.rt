@@ -8,15 +8,14 @@ ghost use Rattle.sundr.specs.Lookup.{looked_up, is_found, lookup_into};
 
 use lookup::Outcome;
 use refusal::Refusal;
-use writer::Written;
 
 // A writer's answer as a number: the first result is the number of blocks.
 fn written_word(w: Written) -> u64
     ensures { result ≡ answer_word (λ n. n) (λ n. 0) (written_as w) }
 {
     match w {
-        Written::Blocks(n) => refusal::word(0, n, 0),
-        Written::Refused(r) => refusal::refusal_word(r),
+        Ok(n) => refusal::word(0, n, 0),
+        Err(r) => refusal::refusal_word(r),
     }
 }
 

@@ -13,17 +13,10 @@ ghost use Rattle.refusal.specs.Order.{tried};
 ghost use Rattle.itable.specs.Write.{number_above, write_steps};
 ghost use Rattle.writer.specs.Written.{Writes};
 
-use refusal::{Check, Refusal};
+use refusal::Refusal;
 
 // The most files that a table has.
 const MOST: usize = 4096;
-
-// The number of blocks that stand at the front of the buffer, or why none was written.
-#[derive(Clone, Copy)]
-pub enum Written {
-    Blocks(usize),
-    Refused(Refusal),
-}
 
 // The first place whose i-number is not above the one before; the number of places if there is none.
 fn not_above(numbers: &[u64]) -> usize
@@ -43,47 +36,44 @@ fn not_above(numbers: &[u64]) -> usize
 }
 
 // The tests, in their order. A product is formed where its factors are known to be small.
-fn admit(numbers: &[u64], handles: &[u8], room: usize) -> Check
+fn admit(numbers: &[u64], handles: &[u8], room: usize) -> Result<(), Refusal>
     ensures { said result ≡ tried (write_steps numbers.now handles.now room) }
 {
     let n = numbers.len();
     if MOST < n {
-        return Check::Refused(Refusal::Length(0));
+        return Err(Refusal::Length(0));
     }
     if handles.len() != 32 * n {
-        return Check::Refused(Refusal::Length(0));
+        return Err(Refusal::Length(0));
     }
     let i = not_above(numbers);
     let whole = block::SIZE * count::blocks(n);
     if i < n {
-        return Check::Refused(Refusal::NotAscending(i));
+        return Err(Refusal::NotAscending(i));
     }
     if room < whole {
-        return Check::Refused(Refusal::NoRoom);
+        return Err(Refusal::NoRoom);
     }
-    Check::Passed
+    Ok(())
 }
 
 // Writes the blocks of a table of files to the front of `out`, each of 642 bytes, and gives their
 // number. The i-numbers strictly ascend, `handles` has 32 bytes for each of them, and there are at
 // most 4,096. What stands in `out` after the last block is kept; a refused call keeps all of it.
-pub fn write(numbers: &[u64], handles: &[u8], out: &mut [u8]) -> Written
+pub fn write(numbers: &[u64], handles: &[u8], out: &mut [u8]) -> Result<usize, Refusal>
     ensures { Writes numbers.now handles.now out.old out.new result }
 {
-    let c = admit(numbers, handles, out.len());
-    if let Check::Refused(r) = c {
-        return Written::Refused(r);
-    }
+    admit(numbers, handles, out.len())?;
     let l = count::wide(numbers.len());
     row::leaves(numbers, handles, l, out);
     if l <= 1 {
-        return Written::Blocks(l);
+        return Ok(l);
     }
     let f = count::wide(l);
     row::inner(4, 0, l, f, out);
     if f <= 1 {
-        return Written::Blocks(l + f);
+        return Ok(l + f);
     }
     row::inner(5, l, f, 1, out);
-    Written::Blocks(l + f + 1)
+    Ok(l + f + 1)
 }
