@@ -14,12 +14,11 @@ const HASH: usize = 32;
 
 const LONGEST: usize = 65536;
 
-// Which part is the wanted block, or why none is handed back.
+// Where the wanted block was found.
 #[derive(Clone, Copy)]
-pub enum Choice {
+pub enum Source {
     Reply,
     Cached,
-    Refused(Refusal),
 }
 
 // Whether a part is there and has the wanted hash.
@@ -35,37 +34,37 @@ fn fits(wanted: &[u8], part: &[u8]) -> bool
 
 // Says which of two parts is the block of the wanted hash. The cached part is hashed only where the
 // reply does not fit.
-pub fn choose(wanted: &[u8], reply: &[u8], cached: &[u8]) -> Choice
+pub fn choose(wanted: &[u8], reply: &[u8], cached: &[u8]) -> Result<Source, Refusal>
     ensures { answer_of result ≡ choose_of wanted.now reply.now cached.now }
 {
     if wanted.len() != HASH {
-        return Choice::Refused(Refusal::Length(0));
+        return Err(Refusal::Length(0));
     }
     if reply.len() > LONGEST {
-        return Choice::Refused(Refusal::Length(0));
+        return Err(Refusal::Length(0));
     }
     if cached.len() > LONGEST {
-        return Choice::Refused(Refusal::Length(0));
+        return Err(Refusal::Length(0));
     }
     if fits(wanted, reply) {
-        return Choice::Reply;
+        return Ok(Source::Reply);
     }
     if fits(wanted, cached) {
-        return Choice::Cached;
+        return Ok(Source::Cached);
     }
-    Choice::Refused(Refusal::WrongHash(0))
+    Err(Refusal::WrongHash(0))
 }
 
 // The part that was chosen, itself: the reply, or the cached part; where the choice is refused, the
 // empty part with which the reply begins. Nothing is hashed.
-pub fn part<'a>(c: Choice, reply: &'a [u8], cached: &'a [u8]) -> &'a [u8]
+pub fn part<'a>(c: Result<Source, Refusal>, reply: &'a [u8], cached: &'a [u8]) -> &'a [u8]
     ensures bytes { result.now ≡ handed (answer_of c) reply.now cached.now }
     ensures place { HandedBack (answer_of c) reply.entry cached.entry result }
 {
     match c {
-        Choice::Reply => reply,
-        Choice::Cached => cached,
-        Choice::Refused(_) => &reply[0..0],
+        Ok(Source::Reply) => reply,
+        Ok(Source::Cached) => cached,
+        Err(_) => &reply[0..0],
     }
 }
 

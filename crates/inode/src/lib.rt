@@ -34,11 +34,11 @@ const HASHES: usize = 5;
 
 const COUNT: usize = 16;
 
-// The file offset and the length of an accepted block, or why it is refused.
+// The file offset and the length of an accepted block.
 #[derive(Clone, Copy)]
-pub enum Spanned {
-    Span(usize, usize),
-    Refused(Refusal),
+pub struct Span {
+    pub offset: usize,
+    pub size: usize,
 }
 
 // The number of blocks of a file of this length.
@@ -161,7 +161,7 @@ fn file_block_check(len: usize, k: usize, hash: &[u8], block: &[u8]) -> Result<(
 
 // Checks a file's inode, which has the file handle for its hash, and block k of the file. Gives the
 // file offset and the length of the block. All that is lent is only read.
-pub fn block_check(handle: &[u8], inode: &[u8], k: u32, block: &[u8]) -> Spanned
+pub fn block_check(handle: &[u8], inode: &[u8], k: u32, block: &[u8]) -> Result<Span, Refusal>
     ensures { answer_of result ≡ block_check handle.now inode.now k block.now }
 {
     let c = inode_check(handle, inode);
@@ -192,7 +192,7 @@ pub fn large_block_check(
     k: u32,
     indirect: &[u8],
     block: &[u8],
-) -> Spanned
+) -> Result<Span, Refusal>
     ensures { answer_of result ≡ large_check handle.now inode.now k indirect.now block.now }
 {
     let c = large::inode_check(handle, inode);

@@ -12,45 +12,6 @@ ghost use Rattle.lookup.specs.Internal.Step.{ending, Searched, Consulted};
 use itable::Link;
 use refusal::Refusal;
 
-// What a lookup says: the i-number's file is there, or it is absent; or why the path says nothing.
-#[derive(Clone, Copy)]
-pub enum Outcome {
-    Found,
-    Absent,
-    Refused(Refusal),
-}
-
-// The answer of a lookup: the file's handle stands beside it, 32 zero bytes where none is found.
-#[derive(Clone, Copy)]
-pub struct Looked {
-    pub answer: Outcome,
-    pub handle: [u8; 32],
-}
-
-// How a lookup ends at a block.
-#[derive(Drop)]
-enum End {
-    WrongHash,
-    Malformed,
-    Here(u8),
-    Nowhere,
-}
-
-#[derive(Drop)]
-enum Step {
-    Ends(End),
-    Leads(u8),
-}
-
-fn refused(r: Refusal) -> Looked
-    ensures { Looks (refusal r) result }
-{
-    Looked {
-        answer: Outcome::Refused(r),
-        handle: [0u8; 32],
-    }
-}
-
 // A leaf gives the handle, or absent.
 fn in_leaf(b: &[u8], number: u64) -> Step
     requires { kind b.now ≡ 3 }

@@ -25,12 +25,12 @@ const QUESTIONS: usize = 64;
 
 const ENTRY: usize = 33;
 
-// What a call says: all questions are answered; or the first whose lookup is refused, and why. A
-// length of the whole call is refused at question 0, which is how the papers tell it.
+// Why a call answers no question: the first whose lookup is refused, and its refusal. A length of the
+// whole call is refused at question 0, which is how the papers tell it.
 #[derive(Clone, Copy)]
-pub enum Outcome {
-    Answered,
-    Refused(usize, Refusal),
+pub struct AtQuestion {
+    pub question: usize,
+    pub refusal: Refusal,
 }
 
 // What is known of a block: its index in the paths, and its hash. An index that no block has says

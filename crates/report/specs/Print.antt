@@ -3,10 +3,7 @@
 use Rattle.std.specs.Prelude.{ℕ, List, [], ◌∷◌, ◌++◌, leb, length, drop}
 use Rattle.refusal.specs.Answer.{Answer, accepted}
 use Rattle.refusal.specs.Order.{Step, unless, in_order}
-use Rattle.refusal.specs.Refusal.{refusal}
 use Rattle.report.specs.Printed.{printed}
-use Rattle.report.specs.declared.Printed.{Printed}
-use Rattle.report.specs.declared.Printed.TheVariants.{Bytes, Refused}
 
 unfoldable pub print_steps : List ℕ → ℕ → List Step
 print_steps input room = unless (leb (length (printed input)) room) 12 0 0 ∷ []
@@ -18,8 +15,3 @@ printed_given input room = in_order (print_steps input room) (accepted (length (
 unfoldable pub printing : List ℕ → List ℕ → Answer (List ℕ)
 printing input buffer =
     in_order (print_steps input (length buffer)) (accepted (printed input ++ drop (length (printed input)) buffer))
-
--- The answer in code.
-abbrev pub printed_as : Printed → Answer ℕ
-printed_as (Bytes n) = accepted n
-printed_as (Refused r) = refusal r

@@ -11,7 +11,8 @@ mod text;
 ghost use Rattle.std.specs.Prelude.{◌≤◌, ◌≡◌, length};
 ghost use Rattle.refusal.specs.Result.{left};
 ghost use Rattle.report.specs.Printed.{printed};
-ghost use Rattle.report.specs.Print.{printed_given, printing, printed_as};
+ghost use Rattle.refusal.specs.Refusal.{said};
+ghost use Rattle.report.specs.Print.{printed_given, printing};
 
 use refusal::Refusal;
 

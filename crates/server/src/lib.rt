@@ -16,7 +16,7 @@ ghost use Rattle.std.specs.Prelude.{◌≡◌, ◌+◌, ◌*◌, ◌<◌, ◌++�
 ghost use Rattle.refusal.specs.Result.{Gives, left};
 ghost use Rattle.protocol.specs.Version.{size};
 ghost use Rattle.protocol.specs.Server.{empty as empty_of, make as make_of, listed, listing as listing_of, commit as commit_of};
-ghost use Rattle.server.specs.Listed.{listed_as};
+ghost use Rattle.refusal.specs.Refusal.{said};
 ghost use Rattle.server.specs.Commit.{commit_into};
 
 // What making gives: the check of the number of users, and the server's list.

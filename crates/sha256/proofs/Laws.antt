@@ -1,11 +1,12 @@
 -- What a caller may use of the calls' definitions: the answer in each of its three cases, the length of a hash, and the comparison.
 use Rattle.std.proofs.Common.{◌≡◌, ℕ, ◌<◌, ◌≤◌, List, length, refl, ◌∙◌, eq-eqb, ne_eqb, le-leb}
 use borrow.Author.Tests.{lt-leb}
+use Rattle.std.specs.Prelude.{Result}
 use Rattle.layout.specs.Strings.{same}
 use Rattle.refusal.specs.Answer.{accepted, refused}
 use Rattle.refusal.specs.Order.{in_order}
 use Rattle.refusal.specs.Result.{Gives}
-use Rattle.refusal.specs.declared.Check.{Check}
+use Rattle.refusal.specs.declared.Refusal.{Refusal}
 use Rattle.layout.specs.Bytes.{bytes4}
 use Rattle.sha256.specs.Sha256.{sha256, bytes_of}
 use Rattle.sha256.specs.Hash.{hash, is_hash}
@@ -23,7 +24,7 @@ unfolding hash in_order
 hash_accepted m n h k = rw (le-leb (length m) 65536 h, eq-eqb n 32 k)
 
 -- What the call leaves in a buffer of 32 bytes.
-pub hash_left : (m o d : List ℕ) (r : Check) → length m ≤ 65536 → length o ≡ 32 → Gives (hash m (length o)) o d r → d ≡ sha256 m
+pub hash_left : (m o d : List ℕ) (r : Result Unit Refusal) → length m ≤ 65536 → length o ≡ 32 → Gives (hash m (length o)) o d r → d ≡ sha256 m
 hash_left m o d r h l g = g.leaves ∙ rw (hash_accepted m (length o) h l)
 
 pub sha256_length : (m : List ℕ) → length (sha256 m) ≡ 32

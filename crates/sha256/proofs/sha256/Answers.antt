@@ -1,18 +1,18 @@
 -- Each length that is refused is tested before the first store, and what is stored then is the hash value after the padding, whose
 -- bytes are the definition's. There is no loop here: the blocks' is in `blocks`.
+use Rattle.std.specs.Prelude.{Ok, Err}
 use Rattle.std.proofs.Common.{◌≡◌, ℕ, List, sym, ap, ◌∙◌}
 use Rattle.refusal.specs.Answer.{Answer, accepted, refused}
 use Rattle.refusal.specs.Result.{Gives}
-use Rattle.refusal.specs.declared.Check.TheVariants.{Passed, Refused}
 use Rattle.refusal.specs.declared.Refusal.TheVariants.{Length}
 use Rattle.sha256.specs.Sha256.{sha256, bytes_of}
 use Rattle.sha256.proofs.Laws.{hash_long, hash_room, hash_accepted}
 use Rattle.sha256.proofs.sha256.Goals as goal
 
-kept : {due : Answer (List ℕ)} (o : List ℕ) → due ≡ refused 2 0 0 → Gives due o o (Refused (Length 0))
+kept : {due : Answer (List ℕ)} (o : List ℕ) → due ≡ refused 2 0 0 → Gives due o o (Err (Length 0))
 kept o e = record { answers = sym e; leaves = rw e }
 
-filled : {due : Answer (List ℕ)} (o : List ℕ) {l a : List ℕ} → due ≡ accepted a → l ≡ a → Gives due o l Passed
+filled : {due : Answer (List ℕ)} (o : List ℕ) {l a : List ℕ} → due ≡ accepted a → l ≡ a → Gives due o l (Ok tt)
 filled o e h = record { answers = rw (e, h); leaves = rw (e, h) }
 
 pub returns-then-message-gt-LONGEST : goal.returns-then-message-gt-LONGEST
