@@ -8,12 +8,11 @@ use native.Mathlib.Omega.{arith}
 use lib.Dec.{eqb}
 use borrow.Rule.Slice.PartMut.{put_mid}
 use lib.ListN.{length, take, drop, replicate, length-drop}
+use Rattle.std.specs.Prelude.{Result, Ok, Err}
 use Rattle.search.proofs.Bool.{bool_cases}
 use Rattle.refusal.specs.Answer.{Answer, accepted}
 use Rattle.refusal.specs.Order.{unless, in_order, tried}
 use Rattle.refusal.specs.Refusal.{refusal, said}
-use Rattle.refusal.specs.declared.Check.{Check}
-use Rattle.refusal.specs.declared.Check.TheVariants.{Passed, Refused}
 use Rattle.refusal.specs.declared.Refusal.{Refusal}
 use Rattle.refusal.specs.declared.Refusal.TheVariants.{Pending}
 use Rattle.refusal.proofs.Stage.{stage_passed, stage_refused}
@@ -63,7 +62,7 @@ held_short f l =
 
 -- Moving back.
 module _ (N u : ℕ) (f : List ℕ) (room : ℕ) (long good : Bool) (l : long ≡ (eqb (length f) file_size && eqb room size)) (g : good ≡ formed N u f)
-    (c : Check) (e : said c ≡ tried (file_steps N u long good)) where
+    (c : Result Unit Refusal) (e : said c ≡ tried (file_steps N u long good)) where
   abbrev later : Answer (List ℕ)
   later = in_order (unless (not (eqb (state f) 1)) 17 0 0 ∷ []) (accepted (held f))
 
@@ -71,10 +70,10 @@ module _ (N u : ℕ) (f : List ℕ) (room : ℕ) (long good : Bool) (l : long �
   unfolding back
   back_due = rw (l, g)
 
-  pub back_refused : {r : Refusal} → c ≡ Refused r → back N u f room ≡ refusal r
+  pub back_refused : {r : Refusal} → c ≡ Err r → back N u f room ≡ refusal r
   back_refused q = back_due ∙ stage_refused (file_steps N u long good) c e later q
 
-  module _ (q : c ≡ Passed) (p : Bool) (ep : p ≡ eqb (state f) 1) where
+  module _ {v : Unit {0}} (q : c ≡ Ok v) (p : Bool) (ep : p ≡ eqb (state f) 1) where
     back_later : back N u f room ≡ later
     back_later = back_due ∙ stage_passed (file_steps N u long good) c e later q
 

@@ -7,11 +7,11 @@ use mathlib.Core.Path.{◌≡◌, refl, sym, ap, ◌∙◌}
 use borrow.Author.Tests.{eqb-true}
 use lib.Dec.{eqb}
 use lib.ListN.{length}
+use Rattle.std.specs.Prelude.{Result, Ok}
 use Rattle.search.proofs.Bool.{not_both, both_true}
 use Rattle.refusal.specs.Order.{tried}
 use Rattle.refusal.specs.Refusal.{said}
-use Rattle.refusal.specs.declared.Check.{Check}
-use Rattle.refusal.specs.declared.Check.TheVariants.{Passed}
+use Rattle.refusal.specs.declared.Refusal.{Refusal}
 use Rattle.refusal.proofs.Means.{Stage, Either, Unless, and_then_means, test_means, means_accepted}
 use Rattle.protocol.specs.Version.{size}
 use Rattle.protocol.specs.Meaning.{Users}
@@ -28,7 +28,7 @@ module _ (N u : ℕ) (long good : Bool) where
   steps_mean =
       and_then_means _ _ (and_then_means _ _ (users_stage N u) (λ w. test_means long 2 0 0 (λ e. e, λ e. e))) (λ w. test_means good 3 16 0 (λ e. e, λ e. e))
 
-  pub was_long : (c : Check) → said c ≡ tried (file_steps N u long good) → c ≡ Passed → long ≡ true
+  pub was_long : (c : Result Unit Refusal) → said c ≡ tried (file_steps N u long good) → {u : Unit {0}} → c ≡ Ok u → long ≡ true
   was_long c e p = (means_accepted steps_mean (sym e ∙ ap said p)).0.0.1
 
 -- Two lengths that are tested at once.

@@ -6,20 +6,20 @@ use Rattle.memory.proofs.Judged.{was_long, both_long}
 use Rattle.memory.proofs.Calls.{pend_due}
 use Rattle.memory.proofs.pend.Goals as goal
 
-pub returns-in_default : goal.returns-in_default
-returns-in_default c =
-    hands_on _ _ (pend_due _ _ _ _ _ _ c.both-long.ensures c.own.ensures) c.judge-c.result c.judge-c.ensures (rw c.in_default.is)
+pub returns-in_err-judge : goal.returns-in_err-judge
+returns-in_err-judge c =
+    hands_on _ _ (pend_due _ _ _ _ _ _ c.both-long.ensures c.own.ensures) c.judge.result c.judge.ensures c.in_err-judge.was c.from_residual.ensures.1
 
 pub lay-requires : goal.lay-requires
 lay-requires c =
-    let j = c.judge-c in
+    let j = c.judge in
     let l =
     both_long _ _ size _ file_size c.both-long.ensures
-    (was_long _ _ _ _ j.result j.ensures c.in-Passed.is) in
+    (was_long _ _ _ _ j.result j.ensures c.in_ok-judge.was) in
     record { x_len = l.0; out_len = l.1 }
 
 pub returns : goal.returns
 returns c =
     gives_result _ _
-    (goes_on_to _ _ (pend_due _ _ _ _ _ _ c.both-long.ensures c.own.ensures) c.judge-c.result c.judge-c.ensures
-    (rw c.in-Passed.is)) c.lay.ensures
+    (goes_on_to _ _ (pend_due _ _ _ _ _ _ c.both-long.ensures c.own.ensures) c.judge.result c.judge.ensures
+    c.in_ok-judge.was) c.lay.ensures

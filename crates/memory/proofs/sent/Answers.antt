@@ -6,25 +6,25 @@ use Rattle.memory.proofs.Judged.{was_long}
 use Rattle.memory.proofs.Calls.{sent_due, sent_kept, sent_set}
 use Rattle.memory.proofs.sent.Goals as goal
 
-pub returns-in_default : goal.returns-in_default
-returns-in_default c =
-    hands_on _ _ (sent_due _ _ _ _ c.formed.ensures) c.judge-c.result c.judge-c.ensures (rw c.in_default.is)
+pub returns-in_err-judge : goal.returns-in_err-judge
+returns-in_err-judge c =
+    hands_on _ _ (sent_due _ _ _ _ c.formed.ensures) c.judge.result c.judge.ensures c.in_err-judge.was c.from_residual.ensures.1
 
 pub returns-then-not-pending : goal.returns-then-not-pending
 returns-then-not-pending c =
     gives_result _ _
-    (goes_on_to _ _ (sent_due _ _ _ _ c.formed.ensures) c.judge-c.result c.judge-c.ensures (rw c.in-Passed.is))
+    (goes_on_to _ _ (sent_due _ _ _ _ c.formed.ensures) c.judge.result c.judge.ensures c.in_ok-judge.was)
     (sent_kept _ _ c.pending.ensures c.if-not-pending.true)
 
 pub slice_bounds-clear-end : goal.slice_bounds-clear-end
 slice_bounds-clear-end c =
-    let j = c.judge-c in
-    let l = eqb-true _ 100 (was_long _ _ _ _ j.result j.ensures c.in-Passed.is) in omega (arith, l)
+    let j = c.judge in
+    let l = eqb-true _ 100 (was_long _ _ _ _ j.result j.ensures c.in_ok-judge.was) in omega (arith, l)
 
 pub returns : goal.returns
 returns c =
-    let j = c.judge-c in
-    let l = eqb-true _ 100 (was_long _ _ _ _ j.result j.ensures c.in-Passed.is) in
+    let j = c.judge in
+    let l = eqb-true _ 100 (was_long _ _ _ _ j.result j.ensures c.in_ok-judge.was) in
     gives_result _ _
-    (goes_on_to _ _ (sent_due _ _ _ _ c.formed.ensures) j.result j.ensures (rw c.in-Passed.is))
+    (goes_on_to _ _ (sent_due _ _ _ _ c.formed.ensures) j.result j.ensures c.in_ok-judge.was)
     (sent_set _ _ _ c.pending.ensures c.if-not-pending.false l c.clear.ensures)
