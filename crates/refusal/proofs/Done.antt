@@ -21,9 +21,9 @@ module _ {A B : Type 0} (f : A → ℕ) (g : A → B) (before : B) {x : Answer A
 
   -- The same, where `?` hands the refusal on.
   pub done_returned :
-      {r : Refusal} (answer : Result ℕ Refusal) → x ≡ refusal r → IsErrAnd answer (λ s. s ≡ r) →
+      (r : Refusal) (answer : Result ℕ Refusal) → x ≡ refusal r → IsErrAnd answer (λ s. s ≡ r) →
       (said answer ≡ and_then x (λ a. accepted (f a))) × (before ≡ left (and_then x (λ a. accepted (g a))) before)
-  done_returned {r} answer e h = rw (returned h) (done_refused r e)
+  done_returned r answer e h = rw (returned h) (done_refused r e)
 
   pub done_accepted :
       {a : A} {n : ℕ} {after : B} → x ≡ accepted a → n ≡ f a → after ≡ g a →

@@ -18,7 +18,7 @@ unfolding back_into
 returns-in_err-judge c =
     let a = c.args in
     let w =
-    done_returned length (λ old. old ++ drop (length old) a.out.now) a.out.now c.from_residual.result
+    done_returned length (λ old. old ++ drop (length old) a.out.now) a.out.now _ c.from_residual.result
     (back_refused a.users a.user a.file.now (length a.out.now) c.both-long.result c.formed.result c.both-long.ensures
     c.formed.ensures c.judge.result c.judge.ensures c.in_err-judge.was) c.from_residual.ensures.1 in
     record { answers = w.0; leaves = w.1 }
