@@ -111,17 +111,14 @@ pub fn refusal_word(r: Refusal) -> u64
     word(t.number, t.first, t.second)
 }
 
-// What a call gives besides refusing, as the two small results that its number has room for.
+// What a call gives where it doesn't refuse, as the two small results that its number has room for.
 pub trait Results: Copy {
     ghost first: { Self → ℕ };
 
     ghost second: { Self → ℕ };
 
-    fn first_result(self) -> usize
-        ensures { result ≡ first self };
-
-    fn second_result(self) -> usize
-        ensures { result ≡ second self };
+    fn results(self) -> (usize, usize)
+        ensures { result ≡ (first self, second self) };
 }
 
 // Nothing is told but that the call passed.
@@ -130,27 +127,19 @@ impl Results for () {
 
     ghost second = { λ _. 0 };
 
-    fn first_result(self) -> usize {
-        0
-    }
-
-    fn second_result(self) -> usize {
-        0
+    fn results(self) -> (usize, usize) {
+        (0, 0)
     }
 }
 
-// One number is the first result.
+// A number is the first result.
 impl Results for usize {
     ghost first = { λ n. n };
 
     ghost second = { λ _. 0 };
 
-    fn first_result(self) -> usize {
-        self
-    }
-
-    fn second_result(self) -> usize {
-        0
+    fn results(self) -> (usize, usize) {
+        (self, 0)
     }
 }
 
@@ -159,7 +148,10 @@ pub fn answer_word<R: Results>(answer: Result<R, Refusal>) -> u64
     ensures { result ≡ answer_word_of R.first R.second (said answer) }
 {
     match answer {
-        Ok(r) => word(0, r.first_result(), r.second_result()),
+        Ok(given) => {
+            let (first, second) = given.results();
+            word(0, first, second)
+        }
         Err(r) => refusal_word(r),
     }
 }

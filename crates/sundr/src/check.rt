@@ -25,10 +25,8 @@ fn put(counts: [u32; 16], out: &mut [u32])
     requires { length out.old ≡ 16 }
     ensures { out.new ≡ counts }
 {
-    let mut v = 0;
-    while v < 16 {
+    for v in 0..16 {
         out[v] = counts[v];
-        v += 1;
     }
 }
 
@@ -56,18 +54,15 @@ pub fn sundr_memory_check(
     if again.len() != SIZE {
         return refusal::refusal_word(no_room(users, user));
     }
-    let judged = client::check(users, user, file, list, marks);
-    let verdict = judged.verdict;
-    match verdict {
-        Verdict::Next => {
-            let new = judged.counts;
+    match client::check(users, user, file, list, marks) {
+        Ok(Verdict::Next(new)) => {
             put(new, counts);
             0
         }
-        Verdict::Again => {
-            layout::copy(&judged.again, again);
+        Ok(Verdict::Again(bytes)) => {
+            layout::copy(&bytes, again);
             255
         }
-        Verdict::Refused(r) => refusal::refusal_word(r),
+        Err(r) => refusal::refusal_word(r),
     }
 }

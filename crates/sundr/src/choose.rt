@@ -4,7 +4,7 @@ ghost use Rattle.refusal.specs.Word.{answer_word};
 ghost use Rattle.cache.specs.Choose.{choose};
 ghost use Rattle.sundr.specs.Choose.{part_number, part_length};
 
-use cache::Choice;
+use cache::Source;
 
 // Which of two parts is the block of the wanted hash: the first result is 0 for the reply and 1 for
 // the cached part, the second is that part's length. A reference cannot be handed out to C; the
@@ -16,8 +16,8 @@ pub fn sundr_block_choose<'a>(wanted: &[u8], reply: &'a [u8], cached: &'a [u8]) 
     let c = cache::choose(wanted, reply, cached);
     let part = cache::part(c, reply, cached);
     match c {
-        Choice::Reply => refusal::word(0, 0, part.len()),
-        Choice::Cached => refusal::word(0, 1, part.len()),
-        Choice::Refused(r) => refusal::refusal_word(r),
+        Ok(Source::Reply) => refusal::word(0, 0, part.len()),
+        Ok(Source::Cached) => refusal::word(0, 1, part.len()),
+        Err(r) => refusal::refusal_word(r),
     }
 }

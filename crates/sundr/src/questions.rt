@@ -5,18 +5,19 @@ ghost use Rattle.refusal.specs.Word.{plain_word};
 ghost use Rattle.itable.specs.Many.{many as many_of};
 ghost use Rattle.many.specs.Outcome.{answer_of};
 
-use many::Outcome;
+use many::AtQuestion;
+use refusal::Told;
 
 // The answer of many lookups as a number: a question's refusal has the question's index first, and
 // the position in its path second.
-fn outcome_word(o: Outcome) -> u64
-    ensures { (out : List ℕ) → result ≡ plain_word (answer_of out o) }
+fn outcome_word(answer: Result<(), AtQuestion>) -> u64
+    ensures { (out : List ℕ) → result ≡ plain_word (answer_of out answer) }
 {
-    match o {
-        Outcome::Answered => refusal::word(0, 0, 0),
-        Outcome::Refused(q, r) => {
-            let told = Told::from(r);
-            refusal::word(told.number, q, told.first)
+    match answer {
+        Ok(()) => refusal::word(0, 0, 0),
+        Err(at) => {
+            let told = Told::from(at.refusal);
+            refusal::word(told.number, at.question, told.first)
         }
     }
 }

@@ -4,7 +4,6 @@ ghost use Rattle.std.specs.Prelude.{◌≡◌, length};
 ghost use Rattle.refusal.specs.Result.{left};
 ghost use Rattle.refusal.specs.Word.{plain_word, answer_word};
 ghost use Rattle.protocol.specs.Server.{commit as commit_of};
-ghost use Rattle.server.specs.Listed.{listed_as};
 ghost use Rattle.sundr.specs.Server.{make_at, listed_at, listing_at};
 
 use crate::server_bytes;
@@ -22,21 +21,10 @@ pub fn sundr_server_make_at(users: u8, server: &mut [u8]) -> u64
     }
     let made = server::make(users);
     let check = made.check;
-    let Ok(()) = check else {
-        return refusal::answer_word(check);
-    };
-    server_bytes::write(made.server, server);
-    refusal::answer_word(check)
-}
-
-// A listing's answer as a number: the first result is the number of records.
-fn listed_word(l: Listed) -> u64
-    ensures { result ≡ answer_word (λ n. n) (λ n. 0) (listed_as l) }
-{
-    match l {
-        Ok(n) => refusal::word(0, n, 0),
-        Err(r) => refusal::refusal_word(r),
+    if let Ok(()) = check {
+        server_bytes::write(made.server, server);
     }
+    refusal::answer_word(check)
 }
 
 // The records that the server's list in 1,569 lent bytes holds, to the front of a lent buffer.
@@ -45,7 +33,7 @@ pub fn sundr_server_list_at(server: &[u8], out: &mut [u8]) -> u64
     ensures buffer { out.new ≡ left (listing_at server.now out.old) out.old }
 {
     if server.len() == SIZE {
-        return listed_word(server::list(server_bytes::read(server), out));
+        return refusal::answer_word(server::list(server_bytes::read(server), out));
     }
     refusal::refusal_word(Refusal::Length(0))
 }

@@ -3,28 +3,16 @@ ghost use Rattle.std.specs.Prelude.{◌≡◌, length};
 ghost use Rattle.refusal.specs.Result.{left};
 ghost use Rattle.refusal.specs.Word.{answer_word};
 ghost use Rattle.itable.specs.Write.{blocks_given, writing};
-ghost use Rattle.writer.specs.Written.{answer_of as written_as};
 ghost use Rattle.sundr.specs.Lookup.{looked_up, is_found, lookup_into};
 
-use lookup::Outcome;
 use refusal::Refusal;
-
-// A writer's answer as a number: the first result is the number of blocks.
-fn written_word(w: Written) -> u64
-    ensures { result ≡ answer_word (λ n. n) (λ n. 0) (written_as w) }
-{
-    match w {
-        Ok(n) => refusal::word(0, n, 0),
-        Err(r) => refusal::refusal_word(r),
-    }
-}
 
 // The blocks of an i-table, to the front of a lent buffer.
 pub fn sundr_table_write(numbers: &[u64], handles: &[u8], out: &mut [u8]) -> u64
     ensures answer { result ≡ answer_word (λ n. n) (λ n. 0) (blocks_given numbers.now handles.now (length out.old)) }
     ensures buffer { out.new ≡ left (writing numbers.now handles.now out.old) out.old }
 {
-    written_word(writer::write(numbers, handles, out))
+    refusal::answer_word(writer::write(numbers, handles, out))
 }
 
 // A file's handle, along a path of an i-table's blocks, into 32 lent bytes. The first result says
@@ -36,14 +24,12 @@ pub fn sundr_lookup(handle: &[u8], number: u64, path: &[u8], out: &mut [u8]) -> 
     if out.len() != 32 {
         return refusal::refusal_word(Refusal::Length(0));
     }
-    let looked = lookup::lookup(handle, number, path);
-    let answer = looked.answer;
-    match answer {
-        Outcome::Found => {
-            layout::copy(&looked.handle, out);
+    match lookup::lookup(handle, number, path) {
+        Ok(Some(found)) => {
+            layout::copy(&found, out);
             refusal::word(0, 1, 0)
         }
-        Outcome::Absent => refusal::word(0, 0, 0),
-        Outcome::Refused(r) => refusal::refusal_word(r),
+        Ok(None) => refusal::word(0, 0, 0),
+        Err(r) => refusal::refusal_word(r),
     }
 }
