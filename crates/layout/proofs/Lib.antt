@@ -1,4 +1,5 @@
 pub mod Bytes
+pub mod BigEndian
 pub mod Eight
 pub mod Parts
 pub mod Values

@@ -7,7 +7,4 @@ use lib.ListN.{length, take, replicate}
 use Rattle.layout.proofs.clear.Given as goal
 
 abbrev pub invariant-loop-i : goal.invariant-loop-i
-invariant-loop-i l = (l.from ≤ l.i) × (l.i - l.from ≤ length l.out - l.from) × (length l.out ≡ length l.initial.out) × (take l.i l.out ≡ take l.from l.initial.out ++ replicate (l.i - l.from) 0)
-
-abbrev pub decreases-loop-i : goal.decreases-loop-i
-decreases-loop-i l = length l.out - l.i
+invariant-loop-i l = (l.i - l.from ≤ length l.initial.out - l.from) × (take l.i l.out ≡ take l.from l.initial.out ++ replicate (l.i - l.from) 0)

@@ -9,23 +9,19 @@ use Rattle.layout.proofs.Strings.{differ_same, same_every}
 use Rattle.layout.proofs.equal.Goals as goal
 
 pub returns-then-a-b : goal.returns-then-a-b
-returns-then-a-b c = sym (differ_same _ _ (λ e. c.if-a-b.true (ap length e)))
+returns-then-a-b c = sym (differ_same _ _ (λ e. let l : length c.args.a.now ≡ length c.args.b.now = ap length e in omega arith))
 
 pub loop-i-init : goal.loop-i-init
 unfolding every find
-loop-i-init c = (omega arith, c.if-a-b.false, refl)
+loop-i-init c = refl
 
 pub loop-i-preserved : goal.loop-i-preserved
 loop-i-preserved c =
-    let a = c.args in
-    let l = c.loop-i in (
-      omega arith,
-      omega arith,
-      c.still-alike.ensures ∙ (ap (λ t. t && eqb (get_or a.a.now l.i 0) (get_or a.b.now l.i 0)) l.invariant.2 ∙
-          sym (every_more (λ j. eqb (get_or a.a.now j 0) (get_or a.b.now j 0)) l.i)),
-    )
+    let same : _ = λ j. eqb (get_or c.args.a.now j 0) (get_or c.args.b.now j 0) in
+    ap (λ t. t && same c.loop-i.i) c.loop-i.invariant ∙ sym (every_more same c.loop-i.i)
 
 pub returns : goal.returns
 returns c =
     let e : c.loop-i.i ≡ length c.args.a.now = omega arith in
-    (rw e at c.loop-i.invariant.2) ∙ same_every _ _ c.loop-i.invariant.1
+    let l : length c.args.a.now ≡ length c.args.b.now = omega arith in
+    (rw e at c.loop-i.invariant) ∙ same_every _ _ l

@@ -1,8 +1,6 @@
--- The definition, byte by byte.
-use mathlib.Core.Path.{refl}
-use Rattle.layout.specs.Bytes.{bytes2}
+use native.Mathlib.Omega.{arith}
+use Rattle.layout.proofs.BigEndian.{to_be-two}
 use Rattle.layout.proofs.u16_bytes.Goals as goal
 
 pub returns : goal.returns
-unfolding bytes2
-returns c = refl
+returns c = let e = to_be-two c.args.x (omega arith) in cc

@@ -1,6 +1,5 @@
--- The number no places on.
-use native.Mathlib.Nat.{add-zero}
+use Rattle.layout.proofs.BigEndian.{from_be-four}
 use Rattle.layout.proofs.u32_at.Goals as goal
 
 pub returns : goal.returns
-returns c = rw add-zero at c.quad.ensures
+returns c = let e = from_be-four c.args.b.now c.args.at in cc

@@ -1,8 +1,6 @@
--- The definition, byte by byte.
-use mathlib.Core.Path.{refl}
-use Rattle.layout.specs.Bytes.{bytes4}
+use native.Mathlib.Omega.{arith}
+use Rattle.layout.proofs.BigEndian.{to_be-four}
 use Rattle.layout.proofs.u32_bytes.Goals as goal
 
 pub returns : goal.returns
-unfolding bytes4
-returns c = refl
+returns c = let e = to_be-four c.args.x (omega arith) in cc

@@ -10,21 +10,18 @@ use Rattle.layout.proofs.zero_between.Goals as goal
 
 pub loop-x-init : goal.loop-x-init
 unfolding zeros
-loop-x-init c = (c.least-end.ensures, omega arith, omega arith, sym (every_intro _ _ _ (λ j a b. absurd (omega arith))))
+loop-x-init c = (omega arith, sym (every_intro _ _ _ (λ j a b. absurd (omega arith))))
 
 pub loop-x-preserved : goal.loop-x-preserved
 loop-x-preserved c =
     let l = c.loop-x in
     let a = c.args in (
-      l.invariant.0,
       omega arith,
-      omega arith,
-      c.still-zero.ensures ∙
-          (ap (λ t. t && eqb (get_or a.b.now l.x 0) 0) l.invariant.3 ∙ sym (zeros_next a.b.now a.from l.x l.invariant.1)),
+      ap (λ t. t && eqb (get_or a.b.now l.x 0) 0) l.invariant.1 ∙ sym (zeros_next a.b.now a.from l.x (omega arith)),
     )
 
 pub returns : goal.returns
 returns c =
     let l = c.loop-x in
     let a = c.args in
-    l.invariant.3 ∙ zeros_reach a.b.now a.from l.x l.invariant.1 a.to l.invariant.2 (omega arith)
+    l.invariant.1 ∙ zeros_reach a.b.now a.from l.x (omega arith) a.to l.invariant.0 (omega arith)
