@@ -1,4 +1,4 @@
-pub mod Form
+pub mod Filled
+pub mod Later
 pub mod Laws
 pub mod Match
-pub mod Number

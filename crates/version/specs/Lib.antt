@@ -1,2 +1,1 @@
-pub mod Internal
 pub mod Version
