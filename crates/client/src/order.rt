@@ -1,5 +1,5 @@
 // The third stage: "send again", and refusals 5, 6 and 7, by which the list goes on from the structure that is held.
-ghost use Rattle.std.specs.Prelude.{◌≡◌, ◌||◌, [], ◌∷◌, ℕ, ◌+◌, ◌*◌, ◌≤◌, ◌<◌, eqb, length, get_or};
+ghost use Rattle.std.specs.Prelude.{◌≡◌, true, ◌||◌, [], ◌∷◌, ℕ, ◌+◌, ◌*◌, ◌≤◌, ◌<◌, eqb, length, get_or};
 ghost use Rattle.layout.specs.Bytes.{values};
 ghost use Rattle.search.specs.Search.{find};
 ghost use Rattle.refusal.specs.Order.{tried};
@@ -8,7 +8,8 @@ ghost use Rattle.protocol.specs.Version.{size, owner, count, counts_before, coun
 ghost use Rattle.protocol.specs.List.{records as records_of, record_at, entry as entry_of};
 ghost use Rattle.protocol.specs.Check.{pair_step, current as current_of};
 ghost use Rattle.version.specs.Version.{fields, count_in};
-ghost use Rattle.client.specs.Internal.Stages.{none, is_before, goes_on, Orders};
+ghost use Rattle.client.specs.Internal.Stages.{none, is_before, goes_on};
+ghost use Rattle.client.specs.Judged.{told};
 
 use crate::{Verdict, records};
 use refusal::Refusal;
@@ -144,50 +145,29 @@ fn pairs(list: &[u8], next: [u32; 16]) -> Result<(), Refusal>
     Ok(())
 }
 
-// The third stage's verdict, and the counts of the next structure: sixteen zeros unless the verdict is `Next`.
-#[derive(Drop)]
-pub(crate) struct Ordered {
-    pub(crate) verdict: Verdict,
-    pub(crate) counts: [u32; 16],
-}
-
-pub(crate) fn order(user: u8, held: &[u8], pending: bool, list: &[u8]) -> Ordered
+// The third stage: the counts of the next structure, or the bytes that are held, where these are to be sent again.
+pub(crate) fn order(user: u8, held: &[u8], pending: bool, list: &[u8]) -> Result<Verdict, Refusal>
     requires user_bound { user < 16 }
+    requires held_whole { pending ≡ true → length held.now ≡ size }
     requires list_value { size * records_of list.now ≡ length list.now }
     requires list_bound { records_of list.now ≤ 16 }
     requires by_index { (i : ℕ) → i < records_of list.now → owner (record_at list.now i) < 16 }
-    ensures { Orders (goes_on user held.now pending list.now) held.now result.verdict result.counts }
+    ensures { told result ≡ goes_on user held.now pending list.now }
 {
     let listed = current(user, held, list);
     let own = version::count(held, user);
     if !listed {
         if is_before(user, own, pending, list) {
-            return Ordered {
-                verdict: Verdict::Again,
-                counts: [0u32; 16],
-            };
+            let mut again = [0u8; SIZE];
+            layout::copy(held, &mut again);
+            return Ok(Verdict::Again(again));
         }
-        return Ordered {
-            verdict: Verdict::Refused(Refusal::NotCurrent),
-            counts: [0u32; 16],
-        };
+        return Err(Refusal::NotCurrent);
     }
-    if own == 4294967295 {
-        return Ordered {
-            verdict: Verdict::Refused(Refusal::LastVersion),
-            counts: [0u32; 16],
-        };
+    if own == u32::MAX {
+        return Err(Refusal::LastVersion);
     }
     let counts = crate::next::counts(user, held, list);
-    let answer = pairs(list, counts);
-    if let Err(r) = answer {
-        return Ordered {
-            verdict: Verdict::Refused(r),
-            counts: [0u32; 16],
-        };
-    }
-    Ordered {
-        verdict: Verdict::Next,
-        counts,
-    }
+    pairs(list, counts)?;
+    Ok(Verdict::Next(counts))
 }
