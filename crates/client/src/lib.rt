@@ -44,8 +44,8 @@ pub fn check(
 ) -> Result<Verdict, Refusal>
     ensures { told result ≡ check_file users user file.now list.now marks.now }
 {
-    sizes::sizes(users, user, list, marks)?;
+    let list = sizes::sizes(users, user, list, marks)?;
     memory::given::given(users, user, file)?;
-    forms::forms(users, list, marks)?;
-    order::order(user, memory::held(file), memory::pending(file), list)
+    forms::forms(users, &list, marks)?;
+    order::order(user, memory::held(file), memory::pending(file), &list)
 }

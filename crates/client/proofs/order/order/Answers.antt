@@ -2,7 +2,7 @@
 -- where these pass.
 use mathlib.Core.Path.{sym, ap, ◌∙◌}
 use native.Mathlib.Omega.{arith}
-use Rattle.refusal.proofs.Stage.{goes_on_to}
+use Rattle.refusal.proofs.Stage.{refuses, goes_on_to}
 use Rattle.protocol.specs.MemoryFile.{next}
 use Rattle.refusal.specs.Answer.{accepted}
 use Rattle.client.proofs.ThirdStage.{is_again, not_current, last_version, values_next, then_pairs}
@@ -27,15 +27,14 @@ counts-counts-requires c =
     let p = c.requires in record {
       user_bound = p.user_bound;
       user_bound_2 = omega (arith, c.count-own.ensures, c.count-own.type_inv);
-      list_value = p.list_value;
       by_index = p.by_index;
     }
 
 pub returns-in_err-pairs : goal.returns-in_err-pairs
 returns-in_err-pairs c =
     tells_refused _ _
-    (then_pairs _ _ _ _ _ c.current-listed.ensures _ c.count-own.ensures c.if-not-listed.false (λ e. omega arith))
-    c.pairs.result (c.pairs.ensures _ (values_next _ _ _ c.counts-counts.ensures)) _ c.in_err-pairs.was c.from_residual.ensures.1
+    (refuses _ _ (then_pairs _ _ _ _ _ c.current-listed.ensures _ c.count-own.ensures c.if-not-listed.false (λ e. omega arith))
+    c.pairs.result (c.pairs.ensures _ (values_next _ _ _ c.counts-counts.ensures)) c.in_err-pairs.was) c.from_residual.ensures.1
 
 pub returns : goal.returns
 returns c =

@@ -1,6 +1,7 @@
 -- Each return but the last shows the condition of its refusal to be false; the last shows both conditions.
 use mathlib.Core.Logic.{inl, inr}
-use mathlib.Core.Path.{refl, sym}
+use mathlib.Core.Path.{refl, sym, ap, ◌∙◌}
+use Rattle.refusal.specs.Answer.{accepted}
 use native.Mathlib.Omega.{arith}
 use Rattle.search.proofs.Bool.{not_both}
 use Rattle.client.proofs.Lengths.{sizes_mean}
@@ -30,6 +31,7 @@ returns-then-marks-records c =
 
 pub returns : goal.returns
 returns c =
+    ap accepted c.new.ensures ∙
     sym
     ((sizes_mean _ _ _ _ _).accepts (
       c.is_user.ensures.0 (c.if-not-is_user.false),
