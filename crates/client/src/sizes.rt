@@ -22,13 +22,7 @@ pub(crate) fn sizes<'a>(
         return Err(Refusal::Users);
     }
     let records = list.len() / SIZE;
-    if SIZE * records != list.len() {
-        return Err(Refusal::Length(0));
-    }
-    if (users as usize) < records {
-        return Err(Refusal::Length(0));
-    }
-    if marks.len() != records {
+    if SIZE * records != list.len() || (users as usize) < records || marks.len() != records {
         return Err(Refusal::Length(0));
     }
     Ok(Records::new(list))
