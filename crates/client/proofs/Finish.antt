@@ -1,30 +1,28 @@
 -- The stages one after the other: a stage's refusal is that of the whole check, and where stages have passed their conditions hold.
-use Prim.Native.Nat.{ℕ, ◌≤◌, ◌<◌}
-use mathlib.Core.Bool.{true}
+use Prim.Native.Nat.{ℕ, ◌<◌}
+use mathlib.Core.Bool.{Bool, true}
 use mathlib.Core.List.{List, []}
 use mathlib.Core.Path.{◌≡◌, refl, sym, ap, ◌∙◌}
 use native.Mathlib.Omega.{arith}
+use Rattle.std.specs.Prelude.{Result, Ok, Err}
 use lib.Dec.{eqb}
-use lib.ListN.{length}
+use lib.ListN.{length, length-drop}
 use borrow.Author.Tests.{eqb-true}
-use Rattle.refusal.specs.Answer.{Answer}
+use Rattle.refusal.specs.Answer.{Answer, accepted, and_then}
 use Rattle.refusal.specs.Order.{in_order, tried}
 use Rattle.refusal.specs.Refusal.{refusal, said}
-use Rattle.refusal.specs.declared.Check.{Check}
-use Rattle.refusal.specs.declared.Check.TheVariants.{Passed, Refused}
 use Rattle.refusal.specs.declared.Refusal.{Refusal}
 use Rattle.refusal.proofs.Means.{means_accepted}
-use Rattle.refusal.proofs.Order.{passed, unless_passed}
-use Rattle.refusal.proofs.Stage.{stage_passed, stage_refused}
-use Rattle.protocol.specs.Version.{owner}
+use Rattle.refusal.proofs.Order.{passed, unless_passed, then_in}
+use Rattle.refusal.proofs.Numbered.{ends}
+use Rattle.refusal.proofs.Stage.{refuses, goes_on_to}
+use Rattle.protocol.specs.Version.{size, owner}
 use Rattle.protocol.specs.List.{records, record_at}
 use Rattle.protocol.specs.Check.{size_steps, remembers, form_steps}
 use Rattle.protocol.specs.MemoryFile.{file_size, state, held, formed, given_steps, sends_again, Verdict as Due, check_file}
 use Rattle.protocol.specs.Meaning.{Users, Sizes}
-use Rattle.protocol.proofs.FileForm.{formed_remembers}
-use Rattle.client.specs.Judged.{Judges}
+use Rattle.protocol.proofs.FileForm.{formed_remembers, held_behind}
 use Rattle.client.specs.Internal.Stages.{is_before, goes_on}
-use Rattle.client.specs.declared.Judged.{Judged}
 use Rattle.client.proofs.Lengths.{call, sizes_mean}
 use Rattle.client.proofs.Placed.{owners_below}
 
@@ -42,32 +40,38 @@ module _ (N u : ℕ) (file list marks : List ℕ) where
   unfolding check_file sends_again goes_on is_before
   stages = refl
 
-  -- A refusal that is told is the check's.
-  abbrev Tells : Refusal → Judged → Type 0
-  Tells r j = Judges (refusal r) j → Judges due j
+  module _ (s : Result (List ℕ) Refusal) (es : said s ≡ in_order (size_steps N u [] list marks) (accepted list)) where
+    left : due ≡ and_then (said s) (λ l. in_order (given_steps N u file) second)
+    left =
+        stages ∙
+        (sym (then_in (size_steps N u [] list marks) (accepted list) (λ l. in_order (given_steps N u file) second)) ∙
+        ap (λ (a : Answer (List ℕ)). and_then a (λ l. in_order (given_steps N u file) second)) (sym es))
 
-  tells : (r : Refusal) (j : Judged) → due ≡ refusal r → Tells r j
-  tells r j d h = rw d h
+    pub sizes_refuse : {r : Refusal} → s ≡ Err r → due ≡ refusal r
+    sizes_refuse {r} h = left ∙ rw h (ends r (λ (l : List ℕ). in_order (given_steps N u file) second))
 
-  module _ (s : Check) (es : said s ≡ tried (size_steps N u [] list marks)) where
-    pub sizes_refuse : (r : Refusal) (j : Judged) → s ≡ Refused r → Tells r j
-    sizes_refuse r j h = tells r j (stages ∙ stage_refused _ s es _ h)
+    module _ {l : List ℕ} (ps : s ≡ Ok l) where
+      sized : (Users N u × Sizes N [] (call N u [] list marks)) × (l ≡ list)
+      sized = means_accepted (sizes_mean N u [] list marks) (sym es ∙ ap said ps)
 
-    module _ (ps : s ≡ Passed) where
-      pub sized : Users N u × Sizes N [] (call N u [] list marks)
-      sized = (means_accepted (sizes_mean N u [] list marks) (sym es ∙ ap said ps)).0
+      -- What is given is the list.
+      same : l ≡ list
+      same = sized.1
 
-      pub small : (u < 16) × (records list ≤ 16)
-      small = let t = sized.0 in let z = sized.1 in (omega arith, omega arith)
+      pub user_below : u < 16
+      user_below = let t = sized.0.0 in omega arith
+
+      pub one_mark_each : length marks ≡ records l
+      one_mark_each = rw same sized.0.1.one_mark_each
 
       to_given : due ≡ in_order (given_steps N u file) second
-      to_given = stages ∙ stage_passed _ s es _ ps
+      to_given = left ∙ rw ps
 
-      module _ (g : Check) (eg : said g ≡ tried (given_steps N u file)) where
-        pub given_refuse : (r : Refusal) (j : Judged) → g ≡ Refused r → Tells r j
-        given_refuse r j h = tells r j (to_given ∙ stage_refused _ g eg _ h)
+      module _ (g : Result Unit Refusal) (eg : said g ≡ tried (given_steps N u file)) where
+        pub given_refuse : {r : Refusal} → g ≡ Err r → due ≡ refusal r
+        given_refuse = refuses _ _ to_given g eg
 
-        module _ (pg : g ≡ Passed) where
+        module _ {w : Unit {0}} (pg : g ≡ Ok w) where
           -- The file's length and form.
           good : (length file ≡ file_size) × (formed N u file ≡ true)
           unfolding given_steps
@@ -75,27 +79,32 @@ module _ (N u : ℕ) (file list marks : List ℕ) where
               let p = (passed (given_steps N u file) (sym eg ∙ ap said pg)).0 in
               (eqb-true (length file) file_size (unless_passed (eqb (length file) file_size) 2 0 0 p.0), unless_passed (formed N u file) 3 16 0 p.1.0)
 
-          pub long : length file ≡ file_size
-          long = good.0
+          -- A pending structure is whole.
+          pub held_whole : (mem : List ℕ) (p : Bool) → mem ≡ held file → p ≡ eqb (state file) 1 → p ≡ true → length mem ≡ size
+          held_whole mem p em ep t =
+              let q : state file ≡ 1 = eqb-true (state file) 1 (sym ep ∙ t) in
+              ap length em ∙ (ap length (held_behind file (λ z. omega arith)) ∙ (length-drop 2 file ∙ omega (arith, good.0)))
 
           to_forms : due ≡ second
-          to_forms = to_given ∙ stage_passed _ g eg _ pg
+          to_forms = goes_on_to _ _ to_given g eg pg
 
           module _
-              (f : Check)
-              (ef : (v : ℕ) (mem : List ℕ) → remembers N v mem ≡ true → said f ≡ tried (form_steps N v mem list marks))
+              (f : Result Unit Refusal)
+              (ef : (v : ℕ) (mem : List ℕ) → remembers N v mem ≡ true → said f ≡ tried (form_steps N v mem l marks))
             where
               placed : said f ≡ tried (form_steps N u (held file) list marks)
-              placed = ef u (held file) (formed_remembers N u file good.1)
+              placed = rw same at (ef u (held file) (formed_remembers N u file good.1))
 
-              pub forms_refuse : (r : Refusal) (j : Judged) → f ≡ Refused r → Tells r j
-              forms_refuse r j h = tells r j (to_forms ∙ stage_refused _ f placed _ h)
+              pub forms_refuse : {r : Refusal} → f ≡ Err r → due ≡ refusal r
+              forms_refuse = refuses _ _ to_forms f placed
 
-              module _ (pf : f ≡ Passed) where
-                pub owned : (i : ℕ) → i < records list → owner (record_at list i) < 16
-                owned i h =
-                    let b = owners_below N u (held file) list marks (sym placed ∙ ap said pf) i h in let t = sized.0 in omega arith
+              module _ {x : Unit {0}} (pf : f ≡ Ok x) where
+                pub owned : (i : ℕ) → i < records l → owner (record_at l i) < 16
+                owned =
+                    rw same
+                    (λ i h.
+                    let b = owners_below N u (held file) list marks (sym placed ∙ ap said pf) i h in let t = sized.0.0 in omega arith)
 
                 -- The third stage's answer is the check's.
-                pub order_answers : due ≡ third
-                order_answers = to_forms ∙ stage_passed _ f placed _ pf
+                pub order_answers : (mem : List ℕ) (p : Bool) → mem ≡ held file → p ≡ eqb (state file) 1 → goes_on u mem p l ≡ due
+                order_answers mem p em ep = rw (same, em, ep) (sym (goes_on_to _ _ to_forms f placed pf))

@@ -2,11 +2,13 @@
 use Prim.Native.Nat.{ℕ, ◌<◌}
 use mathlib.Core.Bool.{true, not}
 use mathlib.Core.List.{List}
-use mathlib.Core.Path.{◌≡◌, sym, ap, ◌∙◌}
+use mathlib.Core.Path.{◌≡◌, refl, sym, ◌∙◌}
 use native.Mathlib.Omega.{arith}
 use lib.Dec.{eqb}
 use lib.ListN.{get_or}
-use Rattle.search.specs.Search.{find, every}
+use Rattle.std.specs.Prelude.{Option, None, Some}
+use Rattle.search.specs.Search.{first, every}
+use Rattle.search.proofs.Place.{was_first, was_none}
 use Rattle.search.proofs.Search.{every_at, some_fails, none_fails}
 use Rattle.refusal.specs.Answer.{Answer, accepted, refused}
 use Rattle.refusal.specs.Order.{in_order, tried}
@@ -20,41 +22,28 @@ module _ (N u : ℕ) (mem list marks : List ℕ) where
   abbrev due : Answer Unit
   due = tried (form_steps N u mem list marks)
 
-  module _
-      (t : remembers N u mem ≡ true)
-      (k m : ℕ)
-      (ek : k ≡ records list)
-      (em : m ≡ find (λ i. not (well_placed N list i)) 0 k)
-    where
-      first : m ≡ find (λ i. not (well_placed N list i)) 0 (records list)
-      first = em ∙ ap (find (λ i. not (well_placed N list i)) 0) ek
+  module _ (t : remembers N u mem ≡ true) (m : Option ℕ) (em : m ≡ first (λ i. not (well_placed N list i)) 0 (records list)) where
+    pub misplaced : {r : ℕ} → m ≡ Some r → refused 3 r 0 ≡ due
+    unfolding form_steps in_order
+    misplaced h =
+        let w = was_first _ 0 (records list) (sym em ∙ h) in
+        rw (t, some_fails (well_placed N list) (records list) _ (sym w.0) (λ q. omega (arith, w.1)), w.0)
 
-      pub misplaced : (m ≡ k → ⊥) → refused 3 m 0 ≡ due
+    module _ (q : m ≡ None) (s : Option ℕ) (es : s ≡ first (λ i. not (eqb (get_or marks i 0) 1)) 0 (records list)) where
+      placed : every (well_placed N list) 0 (records list) ≡ true
+      placed = let w = was_none _ 0 (records list) (sym em ∙ q) in none_fails (well_placed N list) (records list) _ refl (omega (arith, w))
+
+      pub unmarked : {r : ℕ} → s ≡ Some r → refused 4 r 0 ≡ due
       unfolding form_steps in_order
-      misplaced h = rw (t, some_fails (well_placed N list) (records list) m first (λ q. h (q ∙ sym ek)), sym first)
+      unmarked h =
+          let w = was_first _ 0 (records list) (sym es ∙ h) in
+          rw (t, placed, some_fails (λ i. eqb (get_or marks i 0) 1) (records list) _ (sym w.0) (λ q. omega (arith, w.1)), w.0)
 
-      module _ (q : m ≡ k) (s : ℕ) (es : s ≡ find (λ i. not (eqb (get_or marks i 0) 1)) 0 k) where
-        marked : s ≡ find (λ i. not (eqb (get_or marks i 0) 1)) 0 (records list)
-        marked = es ∙ ap (find (λ i. not (eqb (get_or marks i 0) 1)) 0) ek
-
-        pub unmarked : (s ≡ k → ⊥) → refused 4 s 0 ≡ due
-        unfolding form_steps in_order
-        unmarked h =
-            rw (
-              t,
-              none_fails (well_placed N list) (records list) m first (omega (arith, q, ek)),
-              some_fails (λ i. eqb (get_or marks i 0) 1) (records list) s marked (λ z. h (z ∙ sym ek)),
-              sym marked,
-            )
-
-        pub all_formed : s ≡ k → accepted tt ≡ due
-        unfolding form_steps in_order
-        all_formed z =
-            rw (
-              t,
-              none_fails (well_placed N list) (records list) m first (omega (arith, q, ek)),
-              none_fails (λ i. eqb (get_or marks i 0) 1) (records list) s marked (omega (arith, z, ek)),
-            )
+      pub all_formed : s ≡ None → accepted tt ≡ due
+      unfolding form_steps in_order
+      all_formed h =
+          let w = was_none _ 0 (records list) (sym es ∙ h) in
+          rw (t, placed, none_fails (λ i. eqb (get_or marks i 0) 1) (records list) _ refl (omega (arith, w)))
 
   -- Where the stage passes, each record's owner is a user.
   pub owners_below : due ≡ accepted tt → (i : ℕ) → i < records list → owner (record_at list i) < N

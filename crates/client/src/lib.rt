@@ -35,11 +35,17 @@ pub enum Verdict {
 // `file` is the client's memory file (100 bytes); `list` the server's records end to end; `marks` one byte
 // for each record, 1 for a good signature. The caller owns every buffer, and none is written. A refusal is
 // the first of the paper's order. Any lengths and any bytes are taken.
-pub fn check(users: u8, user: u8, file: &[u8], list: &[u8], marks: &[u8]) -> Result<Verdict, Refusal>
+pub fn check(
+    users: u8,
+    user: u8,
+    file: &[u8],
+    list: &[u8],
+    marks: &[u8],
+) -> Result<Verdict, Refusal>
     ensures { told result ≡ check_file users user file.now list.now marks.now }
 {
-    sizes::sizes(users, user, list, marks)?;
+    let list = sizes::sizes(users, user, list, marks)?;
     memory::given::given(users, user, file)?;
-    forms::forms(users, list, marks)?;
-    order::order(user, memory::held(file), memory::pending(file), list)
+    forms::forms(users, &list, marks)?;
+    order::order(user, memory::held(file), memory::pending(file), &list)
 }

@@ -1,5 +1,5 @@
 -- What the stages of the check hand to each other.
-use Rattle.std.specs.Prelude.{ℕ, ◌+◌, Bool, not, cond, ◌&&◌, List, [], ◌≡◌, eqb}
+use Rattle.std.specs.Prelude.{ℕ, ◌+◌, Bool, not, cond, ◌&&◌, List, [], eqb}
 use Rattle.refusal.specs.Answer.{Answer, accepted}
 use Rattle.refusal.specs.Order.{in_order}
 use Rattle.protocol.specs.Version.{count}
@@ -7,8 +7,6 @@ use Rattle.protocol.specs.List.{entry}
 use Rattle.protocol.specs.Check.{current, next_counts, order_steps}
 use Rattle.protocol.specs.MemoryFile.{Verdict as Due, next, again}
 use Rattle.version.specs.declared.Version.{Version}
-use Rattle.client.specs.Judged.{told, counts_of}
-use Rattle.client.specs.declared.Verdict.{Verdict}
 
 -- What stands past the end of an array of structures.
 abbrev pub none : Version
@@ -24,8 +22,3 @@ goes_on u held pending list =
     cond (not (current u held list) && is_before u (count held u) pending list)
     (accepted (again held))
     (in_order (order_steps u held list) (accepted (next (next_counts u held list))))
-
--- A verdict and counts tell the answer `due`, the bytes being those that are held.
-pub record Orders (due : Answer Due) (held : List ℕ) (verdict : Verdict) (counts : List ℕ) : Type 0 where
-  pub says : told verdict counts held ≡ due
-  pub counted : counts ≡ counts_of due

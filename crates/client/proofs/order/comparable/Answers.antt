@@ -1,15 +1,13 @@
--- What each answer says of the order. There is no loop.
+-- What each answer says of the order.
+use mathlib.Core.Path.{refl, sym, ◌∙◌}
 use Rattle.version.proofs.Match.{ordered_by}
+use Rattle.client.proofs.Apart.{not_apart}
 use Rattle.client.proofs.order.comparable.Goals as goal
+use Rattle.client.proofs.order.comparable.Goals.{in-Apart, in_default}
 
-pub returns-in-Equal : goal.returns-in-Equal
-returns-in-Equal c = ordered_by _ _ c.compare.ensures c.in-Equal.is
-
-pub returns-in-Before : goal.returns-in-Before
-returns-in-Before c = ordered_by _ _ c.compare.ensures c.in-Before.is
-
-pub returns-in-After : goal.returns-in-After
-returns-in-After c = ordered_by _ _ c.compare.ensures c.in-After.is
-
-pub returns-in-Apart : goal.returns-in-Apart
-returns-in-Apart c = ordered_by _ _ c.compare.ensures c.in-Apart.is
+pub returns : goal.returns
+returns c =
+    elim c.match-matches.branch [
+      | in-Apart w ↦ rw w.matches-is (ordered_by _ _ c.compare.ensures w.in-Apart.is)
+      | in_default w ↦ rw w.matches-is (sym (not_apart _ w.in_default.not-Apart) ∙ ordered_by _ _ c.compare.ensures refl)
+    ]

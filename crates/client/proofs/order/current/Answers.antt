@@ -1,10 +1,20 @@
--- Where the list has no record of the user the entry is no bytes; elsewhere the bytes are compared.
+-- Where the list has no record of the user the entry is no bytes.
+use mathlib.Core.List.{List, [], ◌∷◌}
+use mathlib.Core.Path.{◌≡◌, refl}
 use native.Mathlib.Omega.{arith}
-use Rattle.client.proofs.Lent.{no_entry, same_entry}
+use Prim.Native.Nat.{ℕ}
+use borrow.Author.Tests.{ne_eqb}
+use lib.Dec.{eqb}
+use lib.ListN.{length}
+use Rattle.layout.specs.Strings.{same}
+use Rattle.protocol.specs.Check.{current}
 use Rattle.client.proofs.order.current.Goals as goal
 
-pub returns-then-n-i : goal.returns-then-n-i
-returns-then-n-i c = no_entry _ _ _ _ (omega arith) c.entry-i.ensures c.if-n-i.true
+no_bytes : (m : List ℕ) → eqb (length m) 0 ≡ same [] m
+unfolding same
+no_bytes [] = refl
+no_bytes (y ∷ ys) = ne_eqb (length (y ∷ ys)) 0 (λ q. omega arith)
 
-pub returns : goal.returns
-returns c = same_entry _ _ _ _ c.entry-i.ensures _ c.equal.ensures
+pub returns-in-None : goal.returns-in-None
+unfolding current
+returns-in-None c = rw c.in-None.ensures (no_bytes _)

@@ -1,10 +1,9 @@
--- Where the list has no record of the user the entry is no bytes, and counts none; elsewhere the count is read.
+-- Where the list has no record of the user the entry is no bytes, and counts none.
+use mathlib.Core.List.{[]}
+use mathlib.Core.Path.{sym}
 use native.Mathlib.Omega.{arith}
-use Rattle.client.proofs.Lent.{no_count, entry_count}
+use Rattle.layout.proofs.Bytes.{four_past}
 use Rattle.client.proofs.order.listed_count.Goals as goal
 
-pub returns-then-n-i : goal.returns-then-n-i
-returns-then-n-i c = no_count _ _ _ c.entry-i.ensures (omega arith) (omega arith)
-
-pub returns : goal.returns
-returns c = entry_count _ _ _ c.entry-i.ensures _ c.count.ensures
+pub returns-in-None : goal.returns-in-None
+returns-in-None c = rw c.in-None.ensures (sym (four_past [] _ (omega arith)))

@@ -1,37 +1,44 @@
 -- Two tests, the first with the one for "send again", and then the pairs against a structure of the next counts, which are handed back
 -- where these pass.
+use mathlib.Core.Path.{sym, ap, ◌∙◌}
 use native.Mathlib.Omega.{arith}
-use Rattle.client.proofs.ThirdStage.{is_again, not_current, last_version, values_next, pairs_refuse, pairs_pass}
+use Rattle.refusal.proofs.Stage.{refuses, goes_on_to}
+use Rattle.protocol.specs.MemoryFile.{next}
+use Rattle.refusal.specs.Answer.{accepted}
+use Rattle.client.proofs.ThirdStage.{is_again, not_current, last_version, values_next, then_pairs}
+use Rattle.client.proofs.Told.{tells_refused}
 use Rattle.client.proofs.order.order.Goals as goal
 
 pub returns-then-is_before : goal.returns-then-is_before
 returns-then-is_before c =
-    is_again _ _ _ _ _ c.current-listed.ensures _ c.count-own.ensures (c.if-not-listed.true) _ c.is_before.ensures c.if-is_before.true
+    is_again _ _ _ _ _ c.current-listed.ensures _ c.count-own.ensures c.if-not-listed.true _ c.is_before.ensures c.if-is_before.true
+    c.requires.held_whole _ c.copy.ensures.copied
 
 pub returns-then-not-listed : goal.returns-then-not-listed
 returns-then-not-listed c =
-    not_current _ _ _ _ _ c.current-listed.ensures _ c.count-own.ensures (c.if-not-listed.true) _ c.is_before.ensures
-    c.if-is_before.false
+    not_current _ _ _ _ _ c.current-listed.ensures _ c.count-own.ensures c.if-not-listed.true _ c.is_before.ensures c.if-is_before.false
 
 pub returns-then-own : goal.returns-then-own
 returns-then-own c =
-    last_version _ _ _ _ _ c.current-listed.ensures _ c.count-own.ensures (c.if-not-listed.false) (omega arith)
+    last_version _ _ _ _ _ c.current-listed.ensures _ c.count-own.ensures c.if-not-listed.false (omega arith)
 
 pub counts-counts-requires : goal.counts-counts-requires
 counts-counts-requires c =
     let p = c.requires in record {
       user_bound = p.user_bound;
       user_bound_2 = omega (arith, c.count-own.ensures, c.count-own.type_inv);
-      list_value = p.list_value;
       by_index = p.by_index;
     }
 
-pub returns-in-Refused : goal.returns-in-Refused
-returns-in-Refused c =
-    pairs_refuse _ _ _ _ _ c.current-listed.ensures _ c.count-own.ensures (c.if-not-listed.false) (λ e. omega arith)
-    c.pairs-answer.result (c.pairs-answer.ensures _ (values_next _ _ _ c.counts-counts.ensures)) c.in-Refused.r c.in-Refused.is
+pub returns-in_err-pairs : goal.returns-in_err-pairs
+returns-in_err-pairs c =
+    tells_refused _ _
+    (refuses _ _ (then_pairs _ _ _ _ _ c.current-listed.ensures _ c.count-own.ensures c.if-not-listed.false (λ e. omega arith))
+    c.pairs.result (c.pairs.ensures _ (values_next _ _ _ c.counts-counts.ensures)) c.in_err-pairs.was) c.from_residual.ensures.1
 
 pub returns : goal.returns
 returns c =
-    pairs_pass _ _ _ _ _ c.current-listed.ensures _ c.count-own.ensures (c.if-not-listed.false) (λ e. omega arith)
-    c.pairs-answer.result (c.pairs-answer.ensures _ (values_next _ _ _ c.counts-counts.ensures)) c.in_default.is _ c.counts-counts.ensures
+    ap (λ x. accepted (next x)) c.counts-counts.ensures ∙
+    sym
+    (goes_on_to _ _ (then_pairs _ _ _ _ _ c.current-listed.ensures _ c.count-own.ensures c.if-not-listed.false (λ e. omega arith))
+    c.pairs.result (c.pairs.ensures _ (values_next _ _ _ c.counts-counts.ensures)) c.in_ok-pairs.was)
