@@ -42,16 +42,11 @@ fn entries(kind: u8, numbers: &[u64], values: &[u8], out: &mut [u8])
 }
 
 // Whether these are the lengths of a block's numbers, values and bytes.
+#[tactic(auto, unfolding(crate::specs::Filled::fits))]
 fn fits(numbers: usize, values: usize, bytes: usize) -> bool
     ensures { result ≡ fits_of numbers values bytes }
 {
-    if 16 < numbers {
-        return false;
-    }
-    if values != 32 * numbers {
-        return false;
-    }
-    bytes == SIZE
+    numbers <= 16 && values == 32 * numbers && bytes == SIZE
 }
 
 // Fills one block with these entries, each a number and 32 bytes. Gives whether the lengths are those of a
