@@ -27,16 +27,10 @@ fn entries(kind: u8, numbers: &[u64], values: &[u8], out: &mut [u8])
     let u = numbers.len();
     out[KIND] = kind;
     out[USED] = u as u8;
-    let mut j = 0;
-    while j < u {
+    for (j, number) in numbers.iter().enumerate() {
         let from = 32 * j;
         let at = FIRST_NUMBER + SLOT * j;
-        slot(
-            numbers[j],
-            &values[from..from + 32],
-            &mut out[at..at + SLOT],
-        );
-        j += 1;
+        slot(*number, &values[from..from + 32], &mut out[at..at + SLOT]);
     }
     layout::clear(FIRST_NUMBER + SLOT * u, out);
 }
@@ -52,6 +46,7 @@ fn fits(numbers: usize, values: usize, bytes: usize) -> bool
 // Fills one block with these entries, each a number and 32 bytes. Gives whether the lengths are those of a
 // block: at most 16 numbers, 32 bytes of value for each, and 642 bytes to fill. If so all of `out` is
 // written, otherwise none of it.
+// Kept: numbers and values are two slices as two buffers of a C caller are, and as the definition `filled` has them.
 pub fn fill(kind: u8, numbers: &[u64], values: &[u8], out: &mut [u8]) -> bool
     ensures value { result ≡ fits_of (length numbers.now) (length values.now) (length out.old) }
     ensures out_after { out.new ≡ filled kind numbers.now values.now out.old }

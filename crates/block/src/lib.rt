@@ -30,6 +30,7 @@ const FIRST_VALUE: usize = 10;
 const SLOT: usize = 40;
 
 // The kind of a leaf; that of the highest inner block; and the number of slots.
+// Kept: kinds are numbers: `kind` promises the block's byte as it stands, and `child` (definition `to_child`) one less.
 pub const LEAF: u8 = 3;
 
 const TOP: u8 = 5;
@@ -54,14 +55,14 @@ pub fn used(b: &[u8]) -> u8
 pub fn number(b: &[u8], j: u8) -> u64
     ensures { result ≡ number_of b.now j }
 {
-    layout::u64_at(b, FIRST_NUMBER + SLOT * (j as usize))
+    layout::u64_at(b, FIRST_NUMBER + SLOT * usize::from(j))
 }
 
 // The value in slot j.
 pub fn value(b: &[u8], j: u8) -> [u8; 32]
     ensures { result ≡ value_of b.now j }
 {
-    layout::bytes32(b, FIRST_VALUE + SLOT * (j as usize))
+    layout::bytes32(b, FIRST_VALUE + SLOT * usize::from(j))
 }
 
 // The kind due below a block of this kind.
@@ -72,17 +73,18 @@ fn kind_below(kind: u8) -> u8
 }
 
 // The bound below slot j of a block that has this bound: the number in the next slot if that is used,
-// otherwise the block's own bound, which is handed down. The next of slot 255 is no `u8`.
+// otherwise the block's own bound, which is handed down.
 fn child_bound(bound: u64, b: &[u8], j: u8) -> u64
     ensures { result ≡ child_bound bound b.now j }
 {
-    if used(b) as usize <= (j as usize) + 1 {
+    if used(b).saturating_sub(1) <= j {
         return bound;
     }
     number(b, j + 1)
 }
 
 // What leads to the root of this hash.
+// Kept: 0 stands for the root's kind and for no bound in itable's definitions (`kind_due`, `below_bound`) and so in `Link`.
 pub fn root(hash: [u8; 32]) -> Link
     ensures { result ≡ to_root hash }
 {
@@ -138,7 +140,7 @@ fn ascending(b: &[u8]) -> bool
 fn unused_zero(b: &[u8]) -> bool
     ensures { result ≡ unused_zero b.now }
 {
-    layout::zero_between(b, FIRST_NUMBER + SLOT * (used(b) as usize), SIZE)
+    layout::zero_between(b, FIRST_NUMBER + SLOT * usize::from(used(b)), SIZE)
 }
 
 // Whether the block's first number is that of the slot that led to it; the root has none.
