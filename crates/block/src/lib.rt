@@ -65,13 +65,6 @@ pub fn value(b: &[u8], j: u8) -> [u8; 32]
     layout::bytes32(b, FIRST_VALUE + SLOT * usize::from(j))
 }
 
-// The kind due below a block of this kind.
-fn kind_below(kind: u8) -> u8
-    ensures { result ≡ kind - 1 }
-{
-    kind.saturating_sub(1)
-}
-
 // The bound below slot j of a block that has this bound: the number in the next slot if that is used,
 // otherwise the block's own bound, which is handed down.
 fn child_bound(bound: u64, b: &[u8], j: u8) -> u64
@@ -101,7 +94,7 @@ pub fn child(link: Link, b: &[u8], j: u8) -> Link
     ensures { result ≡ to_child link b.now j }
 {
     Link {
-        due: kind_below(kind(b)),
+        due: kind(b).saturating_sub(1),
         first: number(b, j),
         bound: child_bound(link.bound, b, j),
         hash: value(b, j),
@@ -188,10 +181,5 @@ pub fn slot_of(b: &[u8], i: u64) -> Option<u8>
 pub fn last_at_most(b: &[u8], i: u64) -> Option<u8>
     ensures { one_more result ≡ last_at_most (number_of b.now) i (used_of b.now) }
 {
-    for j in (0..used(b)).rev() {
-        if number(b, j) <= i {
-            return Some(j);
-        }
-    }
-    None
+    (0..used(b)).rev().find(|&j| number(b, j) <= i)
 }
