@@ -16,7 +16,7 @@ returns-then-handle-ne32 c =
       | then-handle-ne32-via-else-handle-ne32+then-n-path w ↦ not_whole _ _ _ w.if-handle-ne32.false w.if-n-path.true
       | then-handle-ne32-via-else-handle-ne32+else-n-path+then-n-lt1 w ↦ no_block _ _ _ w.if-handle-ne32.false w.if-n-path.false w.if-n-lt1.true
       | then-handle-ne32-via-else-handle-ne32+else-n-path+else-n-lt1+then-n-gt3 w ↦
-          many_blocks _ _ _ w.if-handle-ne32.false w.if-n-path.false w.if-n-lt1.false w.if-n-gt3.true
+          many_blocks _ _ _ w.if-handle-ne32.false w.if-n-path.false w.if-n-lt1.false (omega arith)
     ]
 
 pub returns : goal.returns
