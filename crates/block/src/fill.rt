@@ -27,36 +27,26 @@ fn entries(kind: u8, numbers: &[u64], values: &[u8], out: &mut [u8])
     let u = numbers.len();
     out[KIND] = kind;
     out[USED] = u as u8;
-    let mut j = 0;
-    while j < u {
+    for (j, number) in numbers.iter().enumerate() {
         let from = 32 * j;
         let at = FIRST_NUMBER + SLOT * j;
-        slot(
-            numbers[j],
-            &values[from..from + 32],
-            &mut out[at..at + SLOT],
-        );
-        j += 1;
+        slot(*number, &values[from..from + 32], &mut out[at..at + SLOT]);
     }
     layout::clear(FIRST_NUMBER + SLOT * u, out);
 }
 
 // Whether these are the lengths of a block's numbers, values and bytes.
+#[tactic(auto, unfolding(crate::specs::Filled::fits))]
 fn fits(numbers: usize, values: usize, bytes: usize) -> bool
     ensures { result ≡ fits_of numbers values bytes }
 {
-    if 16 < numbers {
-        return false;
-    }
-    if values != 32 * numbers {
-        return false;
-    }
-    bytes == SIZE
+    numbers <= 16 && values == 32 * numbers && bytes == SIZE
 }
 
 // Fills one block with these entries, each a number and 32 bytes. Gives whether the lengths are those of a
 // block: at most 16 numbers, 32 bytes of value for each, and 642 bytes to fill. If so all of `out` is
 // written, otherwise none of it.
+// Kept: numbers and values are two slices as two buffers of a C caller are, and as the definition `filled` has them.
 pub fn fill(kind: u8, numbers: &[u64], values: &[u8], out: &mut [u8]) -> bool
     ensures value { result ≡ fits_of (length numbers.now) (length values.now) (length out.old) }
     ensures out_after { out.new ≡ filled kind numbers.now values.now out.old }

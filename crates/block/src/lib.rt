@@ -6,10 +6,11 @@
 pub mod fill;
 
 ghost use Rattle.std.specs.Prelude.{◌≡◌, true, ◌-◌, eqb};
-ghost use Rattle.search.specs.Search.{find};
-ghost use Rattle.itable.specs.Block.{kind as kind_of, used as used_of, number as number_of, value as value_of, child_bound, to_child};
-ghost use Rattle.itable.specs.Block.{kind_due, used_due, ascending as ascending_of, first_due, below_bound, well_formed};
+ghost use Rattle.search.specs.Search.{first};
+ghost use Rattle.itable.specs.Block.{kind as kind_of, used as used_of, number as number_of, value as value_of, to_root, child_bound, to_child};
+ghost use Rattle.itable.specs.Block.{kind_due, used_due, ascending as ascending_of, unused_zero, first_due, below_bound, well_formed};
 ghost use Rattle.itable.specs.Lookup.{last_at_most};
+ghost use Rattle.block.specs.Place.{one_more};
 
 use itable::Link;
 
@@ -29,6 +30,7 @@ const FIRST_VALUE: usize = 10;
 const SLOT: usize = 40;
 
 // The kind of a leaf; that of the highest inner block; and the number of slots.
+// Kept: kinds are numbers: `kind` promises the block's byte as it stands, and `child` (definition `to_child`) one less.
 pub const LEAF: u8 = 3;
 
 const TOP: u8 = 5;
@@ -53,35 +55,38 @@ pub fn used(b: &[u8]) -> u8
 pub fn number(b: &[u8], j: u8) -> u64
     ensures { result ≡ number_of b.now j }
 {
-    layout::u64_at(b, FIRST_NUMBER + SLOT * (j as usize))
+    layout::u64_at(b, FIRST_NUMBER + SLOT * usize::from(j))
 }
 
 // The value in slot j.
 pub fn value(b: &[u8], j: u8) -> [u8; 32]
     ensures { result ≡ value_of b.now j }
 {
-    layout::bytes32(b, FIRST_VALUE + SLOT * (j as usize))
-}
-
-// The kind due below a block of this kind.
-fn kind_below(kind: u8) -> u8
-    ensures { result ≡ kind - 1 }
-{
-    if kind == 0 {
-        return 0;
-    }
-    kind - 1
+    layout::bytes32(b, FIRST_VALUE + SLOT * usize::from(j))
 }
 
 // The bound below slot j of a block that has this bound: the number in the next slot if that is used,
-// otherwise the block's own bound, which is handed down. The next of slot 255 is no `u8`.
+// otherwise the block's own bound, which is handed down.
 fn child_bound(bound: u64, b: &[u8], j: u8) -> u64
     ensures { result ≡ child_bound bound b.now j }
 {
-    if used(b) as usize <= (j as usize) + 1 {
+    if used(b).saturating_sub(1) <= j {
         return bound;
     }
     number(b, j + 1)
+}
+
+// What leads to the root of this hash.
+// Kept: 0 stands for the root's kind and for no bound in itable's definitions (`kind_due`, `below_bound`) and so in `Link`.
+pub fn root(hash: [u8; 32]) -> Link
+    ensures { result ≡ to_root hash }
+{
+    Link {
+        due: 0,
+        first: 0,
+        bound: 0,
+        hash,
+    }
 }
 
 // What leads from the block, to which a link leads, to the child in slot j.
@@ -89,7 +94,7 @@ pub fn child(link: Link, b: &[u8], j: u8) -> Link
     ensures { result ≡ to_child link b.now j }
 {
     Link {
-        due: kind_below(kind(b)),
+        due: kind(b).saturating_sub(1),
         first: number(b, j),
         bound: child_bound(link.bound, b, j),
         hash: value(b, j),
@@ -97,6 +102,7 @@ pub fn child(link: Link, b: &[u8], j: u8) -> Link
 }
 
 // Whether the block is of a kind that may stand at its place; `due` is 0 for the root.
+#[tactic(auto, unfolding(itable::specs::Block::kind_due))]
 fn kind_due(due: u8, b: &[u8]) -> bool
     ensures { result ≡ kind_due due b.now }
 {
@@ -104,55 +110,38 @@ fn kind_due(due: u8, b: &[u8]) -> bool
     if due != 0 {
         return kind == due;
     }
-    if kind < LEAF {
-        return false;
-    }
-    kind <= TOP
+    LEAF <= kind && kind <= TOP
 }
 
 // Whether the block uses as many slots as one at its place may.
+#[tactic(auto, unfolding(itable::specs::Block::used_due))]
 fn used_due(due: u8, b: &[u8]) -> bool
     ensures { result ≡ used_due due b.now }
 {
     let used = used(b);
-    if SLOTS < used {
-        return false;
-    }
-    if 0 < used {
-        return true;
-    }
-    if 0 < due {
-        return false;
-    }
-    kind(b) == LEAF
+    used <= SLOTS && (0 < used || (due == 0 && kind(b) == LEAF))
 }
 
 // Whether the numbers in the used slots strictly ascend.
 fn ascending(b: &[u8]) -> bool
     ensures { result ≡ ascending_of b.now }
 {
-    let used = used(b);
-    let mut last = number(b, 0);
-    let mut j = 0;
-    while j + 1 < used {
-        let next = number(b, j + 1);
-        if next <= last {
-            return false;
-        }
-        last = next;
-        j += 1;
-    }
-    true
+    (1..used(b)).all(|j| number(b, j - 1) < number(b, j))
+}
+
+// Whether the unused slots are all zero.
+fn unused_zero(b: &[u8]) -> bool
+    ensures { result ≡ unused_zero b.now }
+{
+    layout::zero_between(b, FIRST_NUMBER + SLOT * usize::from(used(b)), SIZE)
 }
 
 // Whether the block's first number is that of the slot that led to it; the root has none.
+#[tactic(auto, unfolding(itable::specs::Block::first_due))]
 fn first_due(due: u8, first: u64, b: &[u8]) -> bool
     ensures { result ≡ first_due due first b.now }
 {
-    if due == 0 {
-        return true;
-    }
-    number(b, 0) == first
+    due == 0 || number(b, 0) == first
 }
 
 // Whether the numbers in the used slots are below the bound; 0 stands for none. They ascend, so the last
@@ -161,63 +150,36 @@ fn below_bound(bound: u64, b: &[u8]) -> bool
     requires { ascending_of b.now ≡ true }
     ensures { result ≡ below_bound bound b.now }
 {
-    if bound == 0 {
-        return true;
-    }
     let used = used(b);
-    if used == 0 {
+    if bound == 0 || used == 0 {
         return true;
     }
     number(b, used - 1) < bound
 }
 
 // Whether the block is well formed where the link leads to it.
+#[tactic(auto, unfolding(itable::specs::Block::well_formed))]
 pub fn well_formed(link: Link, b: &[u8]) -> bool
     ensures { result ≡ well_formed link b.now }
 {
-    if !kind_due(link.due, b) {
-        return false;
-    }
-    if !used_due(link.due, b) {
-        return false;
-    }
-    if !ascending(b) {
-        return false;
-    }
-    if !layout::zero_between(b, FIRST_NUMBER + SLOT * (used(b) as usize), SIZE) {
-        return false;
-    }
-    if !first_due(link.due, link.first, b) {
-        return false;
-    }
-    below_bound(link.bound, b)
+    kind_due(link.due, b)
+        && used_due(link.due, b)
+        && ascending(b)
+        && unused_zero(b)
+        && first_due(link.due, link.first, b)
+        && below_bound(link.bound, b)
 }
 
-// The first used slot whose number is i; the number of used slots if there is none.
-pub fn slot_of(b: &[u8], i: u64) -> u8
-    ensures { result ≡ find (λ j. eqb (number_of b.now j) i) 0 (used_of b.now) }
+// The first used slot whose number is i, if there is one.
+pub fn slot_of(b: &[u8], i: u64) -> Option<u8>
+    ensures { result ≡ first (λ j. eqb (number_of b.now j) i) 0 (used_of b.now) }
 {
-    let used = used(b);
-    let mut j = 0;
-    while j < used {
-        if number(b, j) == i {
-            return j;
-        }
-        j += 1;
-    }
-    used
+    (0..used(b)).find(|&j| number(b, j) == i)
 }
 
-// One more than the last used slot whose number is at most i; 0 if there is none.
-pub fn last_at_most(b: &[u8], i: u64) -> u8
-    ensures { result ≡ last_at_most (number_of b.now) i (used_of b.now) }
+// The last used slot whose number is at most i, if there is one.
+pub fn last_at_most(b: &[u8], i: u64) -> Option<u8>
+    ensures { one_more result ≡ last_at_most (number_of b.now) i (used_of b.now) }
 {
-    let mut n = used(b);
-    while 0 < n {
-        if number(b, n - 1) <= i {
-            return n;
-        }
-        n -= 1;
-    }
-    0
+    (0..used(b)).rev().find(|&j| number(b, j) <= i)
 }

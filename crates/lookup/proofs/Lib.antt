@@ -1,4 +1,3 @@
 pub mod Laws
-pub mod Ends
 pub mod Along
 pub mod Lengths
