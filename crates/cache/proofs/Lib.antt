@@ -1,3 +1,2 @@
 pub mod ChooseMeans
-pub mod Laws
 pub mod Handed

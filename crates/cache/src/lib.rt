@@ -26,10 +26,8 @@ fn fits(wanted: &[u8], part: &[u8]) -> bool
     requires { length part.now ≤ 65536 }
     ensures { result ≡ fits_of wanted.now part.now }
 {
-    if part.len() == 0 {
-        return false;
-    }
-    sha256::is_hash(part, wanted)
+    let there = !part.is_empty();
+    there && sha256::is_hash(part, wanted)
 }
 
 // Says which of two parts is the block of the wanted hash. The cached part is hashed only where the
@@ -37,13 +35,7 @@ fn fits(wanted: &[u8], part: &[u8]) -> bool
 pub fn choose(wanted: &[u8], reply: &[u8], cached: &[u8]) -> Result<Source, Refusal>
     ensures { answer_of result ≡ choose_of wanted.now reply.now cached.now }
 {
-    if wanted.len() != HASH {
-        return Err(Refusal::Length(0));
-    }
-    if reply.len() > LONGEST {
-        return Err(Refusal::Length(0));
-    }
-    if cached.len() > LONGEST {
+    if wanted.len() != HASH || reply.len() > LONGEST || cached.len() > LONGEST {
         return Err(Refusal::Length(0));
     }
     if fits(wanted, reply) {
@@ -64,7 +56,7 @@ pub fn part<'a>(c: Result<Source, Refusal>, reply: &'a [u8], cached: &'a [u8]) -
     match c {
         Ok(Source::Reply) => reply,
         Ok(Source::Cached) => cached,
-        Err(_) => &reply[0..0],
+        Err(_) => &reply[..0],
     }
 }
 

@@ -1,3 +1,2 @@
 pub mod Laws
-pub mod Calls
-pub mod LargeLaws
+pub mod Stages

@@ -1,33 +1,33 @@
 // A large file: its inode names sixteen blocks by itself, and the others by one indirect block.
-ghost use Rattle.std.specs.Prelude.{◌≡◌, ◌*◌, ◌≤◌, ◌<◌, length};
+ghost use Rattle.std.specs.Prelude.{◌≡◌, ◌<◌, length};
 ghost use Rattle.refusal.specs.Refusal.{said};
-ghost use Rattle.refusal.specs.Order.{tried};
+ghost use Rattle.refusal.specs.Order.{tried, in_order};
 ghost use Rattle.itable.specs.Inode.{file_length};
 ghost use Rattle.itable.specs.LargeInode.{zero_exactly, indirect_formed, large_inode_steps, indirect_steps};
-ghost use Rattle.inode.specs.Internal.Reading.{read_steps};
+ghost use Rattle.inode.specs.Spanned.{answer_of};
+ghost use Rattle.inode.specs.Internal.Reading.{read_steps, spanned};
 
-use crate::{COUNT, HASH, HASHES};
+use crate::{COUNT, Form, HASH, HASHES, Span};
 use refusal::Refusal;
 
-// The inode's bytes, its kind, the blocks that a file has at most, and where the indirect block's
-// hash stands, up to the inode's end.
-const SIZE: usize = 549;
+const FORM: Form = Form {
+    size: 549,
+    kind: 11,
+    most: 144,
+};
 
-const KIND: u8 = 11;
-
-const MOST: usize = 144;
-
+// Where the indirect block's hash stands, behind the inode's own.
 const LAST_HASH: usize = 517;
 
 // The indirect block's bytes and kind; where its first hash stands, and how many; its place in a
 // refusal.
-const INDIRECT_SIZE: usize = 4097;
+const INDIRECT_SIZE: u16 = 4097;
 
 const INDIRECT_KIND: u8 = 12;
 
 const INDIRECT_HASHES: usize = 1;
 
-const INDIRECT_COUNT: usize = 128;
+const INDIRECT_COUNT: u32 = 128;
 
 const PLACE: usize = 2;
 
@@ -35,61 +35,62 @@ const PLACE: usize = 2;
 fn zero_exactly(inode: &[u8]) -> bool
     ensures { result ≡ zero_exactly inode.now }
 {
-    let zero = layout::zero_between(inode, LAST_HASH, SIZE);
-    if crate::holds(COUNT, crate::file_length(inode)) {
-        zero
-    } else {
-        !zero
-    }
+    let suffice = crate::file_blocks(crate::file_length(inode)) <= COUNT;
+    let zero = layout::zero_between(inode, LAST_HASH, LAST_HASH + HASH);
+    suffice == zero
 }
 
 // The tests of the inode, in their order.
 pub(crate) fn inode_check(handle: &[u8], inode: &[u8]) -> Result<(), Refusal>
     ensures { said result ≡ tried (large_inode_steps handle.now inode.now) }
 {
-    crate::kind_check(handle, inode, SIZE, KIND, MOST)?;
+    crate::inode_check(handle, inode, FORM)?;
     crate::form_check(zero_exactly(inode), 0)
 }
 
-// Whether an indirect block is well formed, for a file of this length.
-fn indirect_formed(len: usize, indirect: &[u8]) -> bool
-    requires { (131072 ≤ len) × (len < 4294967296) }
-    ensures { result ≡ indirect_formed len indirect.now }
+// Whether an indirect block is well formed, for the file of this inode.
+fn indirect_formed(inode: &[u8], indirect: &[u8]) -> bool
+    ensures { result ≡ indirect_formed (file_length inode.now) indirect.now }
 {
-    if layout::byte_at(indirect, 0) != INDIRECT_KIND {
-        return false;
-    }
-    crate::rest_zero(
-        indirect,
-        INDIRECT_HASHES,
-        INDIRECT_COUNT,
-        crate::file_blocks(len) - COUNT,
-    )
+    let blocks = crate::file_blocks(crate::file_length(inode));
+    layout::byte_at(indirect, 0) == INDIRECT_KIND
+        && crate::rest_zero(
+            indirect,
+            INDIRECT_HASHES,
+            INDIRECT_COUNT,
+            blocks.saturating_sub(COUNT),
+        )
 }
 
 // The tests of the indirect block, in their order.
-fn indirect_check(inode: &[u8], len: usize, indirect: &[u8]) -> Result<(), Refusal>
-    requires { (length inode.now ≡ 549) × (len ≡ file_length inode.now) × (131072 ≤ len) × (len < 4294967296) }
+fn indirect_check(inode: &[u8], indirect: &[u8]) -> Result<(), Refusal>
+    requires { length inode.now ≡ 549 }
     ensures { said result ≡ tried (indirect_steps inode.now indirect.now) }
 {
-    crate::named(indirect, INDIRECT_SIZE, &inode[LAST_HASH..SIZE], PLACE)?;
-    crate::form_check(indirect_formed(len, indirect), PLACE)
+    let hash = crate::hash_at(inode, HASHES, COUNT);
+    crate::named(indirect, INDIRECT_SIZE, hash, PLACE)?;
+    crate::form_check(indirect_formed(inode, indirect), PLACE)
 }
 
 // The tests of what block k is read from, in their order: a direct read has the inode's hash and no
 // indirect block, any other has the indirect block and its hash; then those of the block.
-pub(crate) fn read_check(inode: &[u8], len: usize, k: usize, indirect: &[u8], block: &[u8]) -> Result<(), Refusal>
-    requires { (length inode.now ≡ 549) × (len ≡ file_length inode.now) × (len ≤ 1179648) × (8192 * k < len) }
-    ensures { said result ≡ tried (read_steps inode.now len k indirect.now block.now) }
+pub(crate) fn read_check(
+    inode: &[u8],
+    k: u32,
+    indirect: &[u8],
+    block: &[u8],
+) -> Result<Span, Refusal>
+    requires inode_len { length inode.now ≡ 549 }
+    requires k_below { k < 144 }
+    ensures { answer_of result ≡ in_order (read_steps inode.now (file_length inode.now) k indirect.now block.now) (spanned k block.now) }
 {
     if k < COUNT {
-        if indirect.len() != 0 {
+        if !indirect.is_empty() {
             return Err(Refusal::Length(PLACE));
         }
-        let at = HASHES + HASH * k;
-        return crate::file_block_check(len, k, &inode[at..at + HASH], block);
+        return crate::file_block_check(inode, k, crate::hash_at(inode, HASHES, k), block);
     }
-    indirect_check(inode, len, indirect)?;
-    let at = INDIRECT_HASHES + HASH * (k - COUNT);
-    crate::file_block_check(len, k, &indirect[at..at + HASH], block)
+    indirect_check(inode, indirect)?;
+    let hash = crate::hash_at(indirect, INDIRECT_HASHES, k - COUNT);
+    crate::file_block_check(inode, k, hash, block)
 }

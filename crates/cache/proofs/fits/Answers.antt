@@ -1,10 +1,14 @@
 -- An empty part is not there; any other is told by its hash.
-use mathlib.Core.Path.{◌∙◌}
-use Rattle.cache.proofs.Laws.{not_there, by_hash}
+use Rattle.std.proofs.Common.{rules}
+use Rattle.sha256.proofs.Laws.{is_hash_means}
+use Rattle.cache.specs.Choose as choose
 use Rattle.cache.proofs.fits.Goals as goal
 
-pub returns-then-part-eq0 : goal.returns-then-part-eq0
-returns-then-part-eq0 c = not_there _ _ c.if-part-eq0.true
+pub returns-then-there : goal.returns-then-there
+unfolding choose.fits
+returns-then-there c =
+    let h = is_hash_means c.args.part.now c.args.wanted.now c.requires in search rules
 
-pub returns : goal.returns
-returns c = c.is_hash.ensures ∙ by_hash _ _ c.if-part-eq0.false c.requires
+pub returns-else-there : goal.returns-else-there
+unfolding choose.fits
+returns-else-there c = search rules

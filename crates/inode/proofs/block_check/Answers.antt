@@ -1,41 +1,26 @@
 -- The three stages in the definition's order; an inode and an index that pass bound the place of the hash in the inode.
-use native.Mathlib.Omega.{arith}
-use Rattle.inode.proofs.Laws.{hash_lent}
-use Rattle.inode.proofs.Calls.{inode_refused, index_refused, read_refused, read_accepted, block_stages, block_in_is}
+use Rattle.std.proofs.Common.{sym, ap, ◌∙◌, arith}
+use Rattle.refusal.specs.Refusal.{said}
+use Rattle.refusal.proofs.Stage.{goes_on_to}
+use Rattle.inode.proofs.Laws.{kind_in, index_in}
+use Rattle.inode.proofs.Stages.{spans_on, block_due}
 use Rattle.inode.proofs.block_check.Goals as goal
 
-pub returns-in-Refused : goal.returns-in-Refused
-returns-in-Refused c = inode_refused (block_stages _ _ _ _) _ c.inode_check-c.ensures c.in-Refused.is
+pub returns-in_err-inode_check : goal.returns-in_err-inode_check
+returns-in_err-inode_check c =
+    spans_on _ _ (block_due _ _ _ _) _ c.inode_check.ensures c.from_residual.result c.in_err-inode_check.was c.from_residual.ensures.1
 
-pub returns-in-Refused-d : goal.returns-in-Refused-d
-returns-in-Refused-d c =
-    index_refused (block_stages _ _ _ _) _ c.inode_check-c.ensures c.in_default.is _ c.file_length-len.ensures.0 _
-    c.index_check-d.ensures c.in-Refused-d.is
+pub returns-in_err-index_check : goal.returns-in_err-index_check
+returns-in_err-index_check c =
+    let d = goes_on_to _ _ (block_due _ _ _ _) _ c.inode_check.ensures c.in_ok-inode_check.was in
+    let f = c.from_residual-in_err-index_check in spans_on _ _ d _ c.index_check.ensures f.result c.in_err-index_check.was f.ensures.1
 
-pub slice_bounds-file_block_check-end : goal.slice_bounds-file_block_check-end
-slice_bounds-file_block_check-end c =
-    let b =
-    block_in_is _ _ _ _ c.inode_check-c.ensures c.in_default.is _ c.file_length-len.ensures.0 _
-    c.index_check-d.ensures c.in_default-d.is in
-    omega (arith, b.1)
-
-pub file_block_check-e-requires : goal.file_block_check-e-requires
-file_block_check-e-requires c =
-    let b =
-    block_in_is _ _ _ _ c.inode_check-c.ensures c.in_default.is _ c.file_length-len.ensures.0 _
-    c.index_check-d.ensures c.in_default-d.is in
-    b.0
-
-pub returns-in-Refused-e : goal.returns-in-Refused-e
-returns-in-Refused-e c =
-    let a = c.args in
-    read_refused (block_stages _ _ _ _) _ c.inode_check-c.ensures c.in_default.is _ c.file_length-len.ensures.0 _
-    c.index_check-d.ensures c.in_default-d.is _
-    (hash_lent a.inode.now 5 a.k _ _ _ c.file_block_check-e.ensures) c.in-Refused-e.is
+pub hash_at-requires : goal.hash_at-requires
+hash_at-requires c =
+    let w = kind_in _ _ _ _ _ _ (sym c.inode_check.ensures ∙ ap said c.in_ok-inode_check.was) in
+    let k = index_in _ _ _ c.index_check.ensures c.in_ok-index_check.was in omega arith
 
 pub returns : goal.returns
 returns c =
-    let a = c.args in
-    read_accepted (block_stages _ _ _ _) _ c.inode_check-c.ensures c.in_default.is _ c.file_length-len.ensures.0 _
-    c.index_check-d.ensures c.in_default-d.is _
-    (hash_lent a.inode.now 5 a.k _ _ _ c.file_block_check-e.ensures) c.in_default-e.is
+    let d = goes_on_to _ _ (block_due _ _ _ _) _ c.inode_check.ensures c.in_ok-inode_check.was in
+    rw c.hash_at.ensures at c.file_block_check.ensures ∙ sym (goes_on_to _ _ d _ c.index_check.ensures c.in_ok-index_check.was)

@@ -1,9 +1,13 @@
 -- The definition's one test.
-use Rattle.inode.proofs.Laws.{no_block, index_passes}
+use Rattle.std.proofs.Common.{rules}
+use Rattle.refusal.specs.Order.{in_order}
+use Rattle.itable.specs.Inode.{index_steps}
 use Rattle.inode.proofs.index_check.Goals as goal
 
 pub returns-then-file_blocks-k : goal.returns-then-file_blocks-k
-returns-then-file_blocks-k c = no_block _ _ _ c.file_blocks.ensures c.if-file_blocks-k.true
+unfolding index_steps in_order
+returns-then-file_blocks-k c = search rules
 
 pub returns : goal.returns
-returns c = index_passes _ _ _ c.file_blocks.ensures c.if-file_blocks-k.false
+unfolding index_steps in_order
+returns c = search rules

@@ -1,15 +1,24 @@
 -- The tests of the definition, in its order; each `return` has the first that fails.
-use mathlib.Core.Path.{sym, ◌∙◌}
-use Rattle.inode.proofs.Laws.{other_size, other_hash, is_named}
+use Rattle.std.proofs.Common.{sym, ◌∙◌, arith, rules}
+use Rattle.refusal.specs.Order.{in_order}
+use Rattle.sha256.proofs.Laws.{is_hash_means}
+use Rattle.inode.specs.Internal.Named.{named_steps}
 use Rattle.inode.proofs.named.Goals as goal
 
 pub returns-then-b-size : goal.returns-then-b-size
-returns-then-b-size c = other_size _ _ _ _ c.if-b-size.true
+unfolding named_steps in_order
+returns-then-b-size c = search rules
 
 pub returns-then-not-is_hash : goal.returns-then-not-is_hash
+unfolding named_steps in_order
 returns-then-not-is_hash c =
-    other_hash _ _ _ _ c.if-b-size.false c.requires (sym c.is_hash.ensures ∙ c.if-not-is_hash.true)
+    let a = c.args in
+    let h = sym (is_hash_means a.b.now a.hash.now (omega arith)) ∙ (sym c.is_hash.ensures ∙ c.if-not-is_hash.true) in
+    search rules
 
 pub returns : goal.returns
+unfolding named_steps in_order
 returns c =
-    is_named _ _ _ _ c.if-b-size.false c.requires (sym c.is_hash.ensures ∙ c.if-not-is_hash.false)
+    let a = c.args in
+    let h = sym (is_hash_means a.b.now a.hash.now (omega arith)) ∙ (sym c.is_hash.ensures ∙ c.if-not-is_hash.false) in
+    search rules
