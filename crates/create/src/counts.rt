@@ -9,20 +9,13 @@ ghost use Rattle.protocol.specs.Meaning.{Users};
 
 use refusal::Refusal;
 
-// Whether the counts of the users from `from` to 15 are all 0, asked from the last user down to `from`.
+// Whether the counts of the users from `from` to 15 are all 0.
 fn zero_from(counts: &[u32], from: usize) -> bool
-    requires le_from { 1 ≤ from }
+    requires from_le { from ≤ 16 }
     requires counts_len { length counts.now ≡ 16 }
     ensures { result ≡ every (λ v. eqb (get_or counts.now v 0) 0) from (16 - from) }
 {
-    let mut v = 15;
-    while from <= v {
-        if counts[v] != 0 {
-            return false;
-        }
-        v -= 1;
-    }
-    true
+    counts[from..].iter().all(|c| *c == 0)
 }
 
 // The next own count is taken as a number of 64 bits, so that one more than the last one is not 0.

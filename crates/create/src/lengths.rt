@@ -13,13 +13,7 @@ pub(crate) fn lengths(users: u8, user: u8, counts: &[u32], handle: &[u8], room: 
     if !version::is_user(users, user) {
         return Err(Refusal::Users);
     }
-    if counts.len() != 16 {
-        return Err(Refusal::Length(0));
-    }
-    if handle.len() != 32 {
-        return Err(Refusal::Length(0));
-    }
-    if room != SIZE {
+    if counts.len() != 16 || handle.len() != 32 || room != SIZE {
         return Err(Refusal::Length(0));
     }
     Ok(())
