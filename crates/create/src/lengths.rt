@@ -7,7 +7,13 @@ ghost use Rattle.protocol.specs.Create.{length_steps};
 use refusal::Refusal;
 use version::SIZE;
 
-pub(crate) fn lengths(users: u8, user: u8, counts: &[u32], handle: &[u8], room: usize) -> Result<(), Refusal>
+pub(crate) fn lengths(
+    users: u8,
+    user: u8,
+    counts: &[u32],
+    handle: &[u8],
+    room: usize,
+) -> Result<(), Refusal>
     ensures { said result ≡ tried (length_steps users user [] counts.now handle.now room) }
 {
     if !version::is_user(users, user) {

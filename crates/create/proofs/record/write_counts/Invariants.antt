@@ -1,6 +1,6 @@
 -- The counts, written in a row.
 -- The invariant: those of the users passed are in place.
-use Prim.Native.Nat.{◌*◌, ◌≤◌, ◌-◌}
+use Prim.Native.Nat.{◌*◌}
 use mathlib.Core.Path.{◌≡◌}
 use lib.ListN.{length, get_or, take}
 use Rattle.protocol.specs.Version.{counts as counts_of}
