@@ -9,23 +9,16 @@ ghost use Rattle.protocol.specs.Meaning.{Users};
 
 use refusal::Refusal;
 
-// Whether the counts of the users from `from` to 15 are all 0, asked from the last user down to `from`.
+// Whether the counts of the users from `from` to 15 are all 0.
 fn zero_from(counts: &[u32], from: usize) -> bool
-    requires le_from { 1 ≤ from }
+    requires from_le { from ≤ 16 }
     requires counts_len { length counts.now ≡ 16 }
     ensures { result ≡ every (λ v. eqb (get_or counts.now v 0) 0) from (16 - from) }
 {
-    let mut v = 15;
-    while from <= v {
-        if counts[v] != 0 {
-            return false;
-        }
-        v -= 1;
-    }
-    true
+    counts[from..].iter().all(|c| *c == 0)
 }
 
-// The next own count is taken as a number of 64 bits, so that one more than the last one is not 0.
+// One more than the last count there is does not fit a count's type: that is refusal 6.
 pub(crate) fn counts(users: u8, user: u8, memory: &[u8], counts: &[u32]) -> Result<(), Refusal>
     requires users { Users users user }
     requires counts_len { length counts.now ≡ 16 }
@@ -36,11 +29,10 @@ pub(crate) fn counts(users: u8, user: u8, memory: &[u8], counts: &[u32]) -> Resu
         return Err(Refusal::Malformed(0));
     }
     let own = version::count(memory, user);
-    let next = own as u64 + 1;
-    let new = counts[user as usize] as u64;
-    if own == 4294967295 {
+    let Some(next) = own.checked_add(1) else {
         return Err(Refusal::LastVersion);
-    }
+    };
+    let new = counts[user as usize];
     if new != next {
         return Err(Refusal::NotNext);
     }

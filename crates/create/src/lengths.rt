@@ -7,19 +7,19 @@ ghost use Rattle.protocol.specs.Create.{length_steps};
 use refusal::Refusal;
 use version::SIZE;
 
-pub(crate) fn lengths(users: u8, user: u8, counts: &[u32], handle: &[u8], room: usize) -> Result<(), Refusal>
+pub(crate) fn lengths(
+    users: u8,
+    user: u8,
+    counts: &[u32],
+    handle: &[u8],
+    room: usize,
+) -> Result<(), Refusal>
     ensures { said result ≡ tried (length_steps users user [] counts.now handle.now room) }
 {
     if !version::is_user(users, user) {
         return Err(Refusal::Users);
     }
-    if counts.len() != 16 {
-        return Err(Refusal::Length(0));
-    }
-    if handle.len() != 32 {
-        return Err(Refusal::Length(0));
-    }
-    if room != SIZE {
+    if counts.len() != 16 || handle.len() != 32 || room != SIZE {
         return Err(Refusal::Length(0));
     }
     Ok(())

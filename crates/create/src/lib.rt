@@ -24,6 +24,7 @@ use refusal::Refusal;
 // users 0 to 15; `handle` the new i-handle (32 bytes). The caller owns every buffer, and nothing is kept.
 // Passed: `out` (98 bytes) holds the structure, to be signed. Refused, with the first refusal of its
 // order: no byte of `out` is changed. Any lengths, any bytes and any numbers are taken.
+// Kept: `users` and `user` come as two numbers from C, and a struct of both would be taken apart at once (refusal 1 compares them).
 pub fn create(
     users: u8,
     user: u8,

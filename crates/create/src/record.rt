@@ -20,10 +20,8 @@ fn write_counts(counts: &[u32], out: &mut [u8])
     requires out_len { length out.old ≡ 64 }
     ensures { out.new ≡ counts_of (count_in counts.now) 0 16 }
 {
-    let mut v = 0;
-    while v < 16 {
+    for v in 0..16 {
         write_count(counts[v], &mut out[4 * v..4 * v + 4]);
-        v += 1;
     }
 }
 

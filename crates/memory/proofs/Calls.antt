@@ -1,13 +1,12 @@
 -- The four calls by their stages: after tests that pass, each is what is left to do.
-use Prim.Native.Nat.{ℕ, ◌-◌, ◌≤◌}
+use Prim.Native.Nat.{ℕ, ◌≤◌}
 use mathlib.Core.Bool.{Bool, true, false, not, ◌&&◌, ◌||◌}
-use mathlib.Core.List.{List, [], ◌∷◌, ◌++◌}
+use mathlib.Core.List.{List, [], ◌∷◌}
 use mathlib.Core.Logic.{⊎_elim}
 use mathlib.Core.Path.{◌≡◌, sym, ◌∙◌}
 use native.Mathlib.Omega.{arith}
 use lib.Dec.{eqb}
-use borrow.Rule.Slice.PartMut.{put_mid}
-use lib.ListN.{length, take, drop, replicate, length-drop}
+use lib.ListN.{length, set, length-drop}
 use Rattle.std.specs.Prelude.{Result, Ok, Err}
 use Rattle.search.proofs.Bool.{bool_cases}
 use Rattle.refusal.specs.Answer.{Answer, accepted}
@@ -46,13 +45,11 @@ module _ (f : List ℕ) (p : Bool) (e : p ≡ eqb (state f) 1) where
   unfolding sent_of
   sent_kept n = rw (sym e ∙ n)
 
-pub sent_set :
-    (f : List ℕ) (p : Bool) (z : List ℕ) → p ≡ eqb (state f) 1 → p ≡ true → length f ≡ 100 →
-    z ≡ take 0 (take 1 (drop 1 f)) ++ replicate (length (take 1 (drop 1 f)) - 0) 0 → put_mid 1 1 f z ≡ sent_of f
+pub sent_set : (f : List ℕ) (p : Bool) → p ≡ eqb (state f) 1 → p ≡ true → length f ≡ 100 → set f 1 0 ≡ sent_of f
 unfolding sent_of
-sent_set [] p z e t l w = absurd (omega arith)
-sent_set (a ∷ []) p z e t l w = absurd (omega arith)
-sent_set (a ∷ b ∷ f) p z e t l w = rw (w, sym e ∙ t)
+sent_set [] p e t l = absurd (omega arith)
+sent_set (a ∷ []) p e t l = absurd (omega arith)
+sent_set (a ∷ b ∷ f) p e t l = rw (sym e ∙ t)
 
 -- A file's structure is not longer than what is behind its state.
 pub held_short : (f : List ℕ) → length f ≡ 100 → length (held f) ≤ 98

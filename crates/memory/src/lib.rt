@@ -6,7 +6,7 @@
 
 pub mod given;
 
-ghost use Rattle.std.specs.Prelude.{◌≡◌, ◌&&◌, ◌⊎◌, ◌∷◌, eqb, length, drop, replicate};
+ghost use Rattle.std.specs.Prelude.{◌≡◌, ◌⊎◌, ◌∷◌, eqb, length, drop, replicate};
 ghost use Rattle.refusal.specs.Answer.{accepted, and_then};
 ghost use Rattle.refusal.specs.Order.{tried};
 ghost use Rattle.refusal.specs.Refusal.{said};
@@ -29,6 +29,7 @@ const STATE: usize = 1;
 const STRUCTURE: usize = 2;
 
 // The states.
+// Kept: the bytes of 01 as they stand, which the arms below name. An enum would add a conversion from a byte and one to it, no arm less.
 const SENT: u8 = 0;
 
 const PENDING: u8 = 1;
@@ -39,20 +40,17 @@ const NONE: u8 = 2;
 fn behind(file: &[u8]) -> &[u8]
     ensures { result.now ≡ drop 2 file.now }
 {
-    if file.len() < STRUCTURE {
-        return &file[0..0];
+    match file {
+        [_, _, structure @ ..] => structure,
+        _ => &[],
     }
-    &file[STRUCTURE..file.len()]
 }
 
 // Whether a structure is well formed, and the user's own.
 fn own(users: u8, user: u8, x: &[u8]) -> bool
     ensures { result ≡ own_formed users user x.now }
 {
-    if !version::well_formed(users, x) {
-        return false;
-    }
-    version::owner(x) == user
+    version::well_formed(users, x) && version::owner(x) == user
 }
 
 // Whether this is a file of `user`, of `users` users: kind 7, and none with zeros behind it, or sent or pending
@@ -63,14 +61,11 @@ pub fn formed(users: u8, user: u8, file: &[u8]) -> bool
     if layout::byte_at(file, KIND) != 7 {
         return false;
     }
-    let state = layout::byte_at(file, STATE);
-    if state == NONE {
-        return layout::zero_between(file, STRUCTURE, FILE);
+    match layout::byte_at(file, STATE) {
+        NONE => layout::zero_between(file, STRUCTURE, FILE),
+        SENT | PENDING => own(users, user, behind(file)),
+        _ => false,
     }
-    if PENDING < state {
-        return false;
-    }
-    own(users, user, behind(file))
 }
 
 // Whether the file is pending: its structure may have been sent or not.
@@ -84,10 +79,10 @@ pub fn pending(file: &[u8]) -> bool
 pub fn held(file: &[u8]) -> &[u8]
     ensures { result.now ≡ held_of file.now }
 {
-    if layout::byte_at(file, STATE) == NONE {
-        return &file[0..0];
+    match layout::byte_at(file, STATE) {
+        NONE => &[],
+        _ => behind(file),
     }
-    behind(file)
 }
 
 // Kind and state, and a structure behind them.
@@ -108,29 +103,20 @@ pub fn file_of(old: &[u8]) -> [u8; FILE]
     ensures other { (length old.now ≡ 0 → ⊥) → (length old.now ≡ size → ⊥) → result ≡ replicate 100 0 }
 {
     let mut file = [0u8; FILE];
-    if old.len() == 0 {
-        file[KIND] = 7;
-        file[STATE] = NONE;
-        return file;
+    match old.len() {
+        0 => {
+            file[KIND] = 7;
+            file[STATE] = NONE;
+        }
+        SIZE => lay(SENT, old, &mut file),
+        _ => {}
     }
-    if old.len() != SIZE {
-        return file;
-    }
-    lay(SENT, old, &mut file);
     file
-}
-
-fn both(a: bool, b: bool) -> bool
-    ensures { result ≡ (a && b) }
-{
-    if !a {
-        return false;
-    }
-    b
 }
 
 // The tests with which every call that writes begins, in their order: the users, the lengths, and the form
 // of what is given.
+// Kept: `users` and `user` come as two numbers from C, and a struct of both would be taken apart at once (refusal 1 compares them).
 fn judge(users: u8, user: u8, long: bool, good: bool) -> Result<(), Refusal>
     ensures { said result ≡ tried (file_steps users user long good) }
 {
@@ -152,7 +138,7 @@ fn judge(users: u8, user: u8, long: bool, good: bool) -> Result<(), Refusal>
 pub fn over(users: u8, user: u8, old: &[u8], out: &mut [u8]) -> Result<(), Refusal>
     ensures { Gives (over_of users user old.now (length out.old)) out.old out.new result }
 {
-    let long = both(version::none_or_one(old.len()), out.len() == FILE);
+    let long = version::none_or_one(old.len()) && out.len() == FILE;
     judge(users, user, long, version::remembered(users, user, old))?;
     let file = file_of(old);
     layout::copy(&file, out);
@@ -166,7 +152,7 @@ pub fn back(users: u8, user: u8, file: &[u8], out: &mut [u8]) -> Result<usize, R
         (λ old. accepted (length old)) }
     ensures leaves { out.new ≡ left (back_into users user file.now out.old) out.old }
 {
-    let long = both(file.len() == FILE, out.len() == SIZE);
+    let long = file.len() == FILE && out.len() == SIZE;
     judge(users, user, long, formed(users, user, file))?;
     if pending(file) {
         return Err(Refusal::Pending);
@@ -183,7 +169,7 @@ pub fn sent(users: u8, user: u8, file: &mut [u8]) -> Result<(), Refusal>
     if !pending(file) {
         return Ok(());
     }
-    layout::clear(0, &mut file[STATE..STRUCTURE]);
+    file[STATE] = SENT;
     Ok(())
 }
 
@@ -191,7 +177,7 @@ pub fn sent(users: u8, user: u8, file: &mut [u8]) -> Result<(), Refusal>
 pub fn pend(users: u8, user: u8, x: &[u8], out: &mut [u8]) -> Result<(), Refusal>
     ensures { Gives (pend_of users user x.now (length out.old)) out.old out.new result }
 {
-    let long = both(x.len() == SIZE, out.len() == FILE);
+    let long = x.len() == SIZE && out.len() == FILE;
     judge(users, user, long, own(users, user, x))?;
     lay(PENDING, x, out);
     Ok(())

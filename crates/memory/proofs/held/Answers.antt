@@ -3,8 +3,8 @@ use native.Mathlib.Omega.{arith}
 use Rattle.memory.proofs.Form.{none_held, some_held}
 use Rattle.memory.proofs.held.Goals as goal
 
-pub returns-then-byte_at-eq-NONE : goal.returns-then-byte_at-eq-NONE
-returns-then-byte_at-eq-NONE c = let s = c.byte_at in none_held _ s.result s.ensures (omega arith)
+pub returns-in-2 : goal.returns-in-2
+returns-in-2 c = let s = c.byte_at in none_held _ s.result s.ensures c.in-2.is
 
-pub returns : goal.returns
-returns c = let s = c.byte_at in some_held _ s.result s.ensures (λ e. omega arith) c.behind.ensures
+pub returns-in_default : goal.returns-in_default
+returns-in_default c = let s = c.byte_at in some_held _ s.result s.ensures (λ e. omega arith) c.behind.ensures

@@ -16,8 +16,8 @@ returns-then-not-pending c =
     (goes_on_to _ _ (sent_due _ _ _ _ c.formed.ensures) c.judge.result c.judge.ensures c.in_ok-judge.was)
     (sent_kept _ _ c.pending.ensures c.if-not-pending.true)
 
-pub slice_bounds-clear-end : goal.slice_bounds-clear-end
-slice_bounds-clear-end c =
+pub bounds-file-1 : goal.bounds-file-1
+bounds-file-1 c =
     let j = c.judge in
     let l = eqb-true _ 100 (was_long _ _ _ _ j.result j.ensures c.in_ok-judge.was) in omega (arith, l)
 
@@ -27,4 +27,4 @@ returns c =
     let l = eqb-true _ 100 (was_long _ _ _ _ j.result j.ensures c.in_ok-judge.was) in
     gives_result _ _
     (goes_on_to _ _ (sent_due _ _ _ _ c.formed.ensures) j.result j.ensures c.in_ok-judge.was)
-    (sent_set _ _ _ c.pending.ensures c.if-not-pending.false l c.clear.ensures)
+    (sent_set _ _ c.pending.ensures c.if-not-pending.false l)

@@ -7,16 +7,17 @@ pub returns-then-not-zero_from : goal.returns-then-not-zero_from
 returns-then-not-zero_from c =
     counts_beyond _ _ _ _ c.requires.memory_value _ c.zero_from.ensures (c.if-not-zero_from.true)
 
-pub returns-then-own : goal.returns-then-own
-returns-then-own c =
-    last_version _ _ _ _ c.requires.memory_value _ c.zero_from.ensures (c.if-not-zero_from.false) _ c.count-own.ensures (omega arith)
+pub returns-in_default : goal.returns-in_default
+returns-in_default c =
+    last_version _ _ _ _ c.requires.memory_value _ c.zero_from.ensures (c.if-not-zero_from.false) _ c.count-own.ensures
+    (omega (arith, c.in_default.ensures))
 
 pub returns-then-new-next : goal.returns-then-new-next
 returns-then-new-next c =
-    not_next _ _ _ _ c.requires.memory_value _ c.zero_from.ensures (c.if-not-zero_from.false) _ c.count-own.ensures (λ e. omega arith)
-    (λ e. omega arith)
+    not_next _ _ _ _ c.requires.memory_value _ c.zero_from.ensures (c.if-not-zero_from.false) _ c.count-own.ensures
+    (λ e. omega (arith, c.in-Some.ensures)) (λ e. omega (arith, c.in-Some.ensures))
 
 pub returns : goal.returns
 returns c =
-    is_next _ _ _ _ c.requires.memory_value _ c.zero_from.ensures (c.if-not-zero_from.false) _ c.count-own.ensures (λ e. omega arith)
-    (omega arith)
+    is_next _ _ _ _ c.requires.memory_value _ c.zero_from.ensures (c.if-not-zero_from.false) _ c.count-own.ensures
+    (λ e. omega (arith, c.in-Some.ensures)) (omega (arith, c.in-Some.ensures))

@@ -13,21 +13,10 @@ returns-then-not-is_user c =
 
 pub returns-then-counts-ne16 : goal.returns-then-counts-ne16
 returns-then-counts-ne16 c =
+    let which = c.then-counts-ne16.either in
     sym
     ((lengths_mean _ _ _ _ _ _).refuses
-    (inr (c.is_user.ensures.0 (c.if-not-is_user.false), (λ f. omega arith, refl, refl, refl))))
-
-pub returns-then-handle-ne32 : goal.returns-then-handle-ne32
-returns-then-handle-ne32 c =
-    sym
-    ((lengths_mean _ _ _ _ _ _).refuses
-    (inr (c.is_user.ensures.0 (c.if-not-is_user.false), (λ f. omega arith, refl, refl, refl))))
-
-pub returns-then-room-ne-SIZE : goal.returns-then-room-ne-SIZE
-returns-then-room-ne-SIZE c =
-    sym
-    ((lengths_mean _ _ _ _ _ _).refuses
-    (inr (c.is_user.ensures.0 (c.if-not-is_user.false), (λ f. omega arith, refl, refl, refl))))
+    (inr (c.is_user.ensures.0 (c.if-not-is_user.false), (λ f. omega (arith, which), refl, refl, refl))))
 
 pub returns : goal.returns
 returns c =

@@ -10,18 +10,17 @@ use Rattle.create.proofs.record.write_counts.Goals as goal
 
 pub loop-v-init : goal.loop-v-init
 unfolding counts_of
-loop-v-init c = (omega arith, c.requires.out_len, refl)
+loop-v-init c = (c.requires.out_len, refl)
 
 pub loop-v-preserved : goal.loop-v-preserved
 loop-v-preserved c =
     let f : ℕ → ℕ = λ w. get_or c.args.counts.now w 0 in
     let e : c.write_count.new.out ≡ bytes4 (f c.loop-v.v) = c.write_count.ensures in (
-      omega arith,
-      count_length f c.loop-v.out _ c.loop-v.v (omega arith) e ∙ c.loop-v.invariant.1,
-      count_more f c.loop-v.out _ c.loop-v.v (omega arith) e c.loop-v.invariant.2,
+      count_length f c.loop-v.out _ c.loop-v.v (omega arith) e ∙ c.loop-v.invariant.0,
+      count_more f c.loop-v.out _ c.loop-v.v (omega arith) e c.loop-v.invariant.1,
     )
 
 pub returns : goal.returns
 returns c =
     let e : c.loop-v.v ≡ 16 = omega arith in
-    sym (take_all 64 c.loop-v.out (omega arith)) ∙ (rw e at c.loop-v.invariant.2)
+    sym (take_all 64 c.loop-v.out (omega arith)) ∙ (rw e at c.loop-v.invariant.1)
