@@ -6,14 +6,13 @@ use mathlib.Core.Path.{◌≡◌, refl, sym, ap, ◌∙◌}
 use borrow.Author.Tests.{eq-eqb, ne_eqb}
 use lib.Dec.{eqb}
 use lib.ListN.{get_or}
+use Rattle.std.specs.Prelude.{Result, Ok}
 use Rattle.search.specs.Search.{every}
 use Rattle.refusal.specs.Answer.{Answer, accepted, refused}
 use Rattle.refusal.specs.Order.{in_order, tried}
 use Rattle.refusal.specs.Refusal.{said}
-use Rattle.refusal.specs.declared.Check.{Check}
-use Rattle.refusal.proofs.Match.{was_passed}
+use Rattle.refusal.specs.declared.Refusal.{Refusal}
 use Rattle.refusal.proofs.Means.{Stage, means_accepted}
-use Rattle.refusal.proofs.Stage.{Went}
 use Rattle.protocol.specs.Version.{count, structure}
 use Rattle.protocol.specs.Check.{last_count, remembers}
 use Rattle.protocol.specs.Create.{length_steps, count_steps}
@@ -32,13 +31,13 @@ module _ (N u : ℕ) (mem counts handle : List ℕ) (room : ℕ) where
   lengths_mean = length_stages N mem making
 
   -- What holds once the first stage has passed.
-  pub sized : (c : Check) → said c ≡ tried (length_steps N u mem counts handle room) → Went 0 c → ToLengths N mem making
-  sized c e h = (means_accepted lengths_mean (sym e ∙ ap said (was_passed c h))).0
+  pub sized : (c : Result Unit Refusal) → said c ≡ tried (length_steps N u mem counts handle room) → {v : Unit {0}} → c ≡ Ok v → ToLengths N mem making
+  sized c e h = (means_accepted lengths_mean (sym e ∙ ap said h)).0
 
 module _ (N u : ℕ) (f : List ℕ) where
   -- What is held is remembered rightly, once the second stage has passed.
-  pub holds_remembered : (c : Check) → said c ≡ tried (given_steps N u f) → Went 0 c → (mem : List ℕ) → mem ≡ held f → remembers N u mem ≡ true
-  holds_remembered c e h mem q = rw q (formed_remembers N u f (given_passed N u f (sym e ∙ ap said (was_passed c h))).1)
+  pub holds_remembered : (c : Result Unit Refusal) → said c ≡ tried (given_steps N u f) → {v : Unit {0}} → c ≡ Ok v → (mem : List ℕ) → mem ≡ held f → remembers N u mem ≡ true
+  holds_remembered c e h mem q = rw q (formed_remembers N u f (given_passed N u f (sym e ∙ ap said h)).1)
 
 -- The making step in its three stages; the third judges what the file holds.
 module _ (N u : ℕ) (f counts handle : List ℕ) (room : ℕ) where
