@@ -1,5 +1,5 @@
 -- The form of an input as facts about numbers, and where its parts begin.
-use Prim.Native.Nat.{ℕ, ◌*◌, ◌-◌, ◌/◌, ◌%◌, ◌≤◌}
+use Prim.Native.Nat.{ℕ, ◌*◌, ◌-◌, ◌%◌, ◌≤◌}
 use mathlib.Core.Bool.{Bool, true, false, cond}
 use mathlib.Core.List.{List}
 use mathlib.Core.Logic.{⊎_elim}
@@ -7,7 +7,8 @@ use mathlib.Core.Path.{◌≡◌, sym}
 use native.Mathlib.Omega.{arith}
 use borrow.Author.Tests.{leb-true, eqb-true, le-leb, eq-eqb}
 use lib.Dec.{leb, eqb}
-use lib.ListN.{length, length-drop}
+use lib.ListN.{length, get_or, take, length-drop}
+use lib.Seq.{get_or-take}
 use Rattle.search.proofs.Bool.{bool_cases, both_true}
 use Rattle.input.specs.Form.{flag, behind_memory, sent, records, formed}
 
@@ -62,6 +63,6 @@ form_facts input e =
 pub not_formed : (input : List ℕ) → (Formed input → ⊥) → false ≡ formed input
 not_formed input h = ⊎_elim (λ t. absurd (h (form_facts input t))) (λ f. sym f) (bool_cases (formed input))
 
--- There is room for sixteen marked records at most.
-pub at_most_sixteen : (input : List ℕ) (start : ℕ) → formed input ≡ true → 35 ≤ start → (length input - start) / 99 ≤ 16
-at_most_sixteen input start e h = let f = form_facts input e in omega (arith, f.short)
+-- The flag, read from the front of the input.
+pub flag_in : (input head : List ℕ) → head ≡ take 35 input → get_or head 34 0 ≡ flag input
+flag_in input head e = rw e (get_or-take 35 input 34 0 (omega arith))

@@ -1,58 +1,29 @@
--- The report of an answer, and the answer of the whole input.
-use Prim.Native.Nat.{ℕ, ◌-◌, ◌/◌, ◌≤◌}
-use mathlib.Core.Bool.{true, false}
-use mathlib.Core.List.{List, []}
-use mathlib.Core.Logic.{◌⊎◌, inl, inr, ⊎_elim}
-use mathlib.Core.Path.{◌≡◌, refl, sym, ap, ◌∙◌, subst}
-use native.Mathlib.Omega.{arith}
-use lib.ListN.{length, take, drop, replicate, length-drop}
-use lib.Seq.{take_all, length-take-le}
+-- The answer of the whole input.
+use Prim.Native.Nat.{ℕ}
+use mathlib.Core.List.{List}
+use mathlib.Core.Logic.{◌⊎◌}
+use mathlib.Core.Path.{◌≡◌, refl, sym, ap, ◌∙◌}
+use lib.ListN.{length}
+use Rattle.std.specs.Prelude.{Result, Ok, Err, Option, None, Some, is_some, IfSome, MatchOption}
+use Rattle.std.specs.Option.{IsSomeAnd}
+use Rattle.layout.specs.Bytes.{parts}
+use Rattle.std.specs.Result.{IsErrAnd}
 use Rattle.protocol.specs.Check.{check}
-use Rattle.protocol.specs.Create.{create}
 use Rattle.protocol.specs.MemoryFile.{file_of, Verdict as Due, check_file, create_file}
 use Rattle.protocol.specs.Moved.{as_verdict}
 use Rattle.protocol.proofs.FileCalls.{accepted_counts, refusal_of, not_again}
 use Rattle.protocol.proofs.Moved.{moved}
-use Rattle.client.specs.Judged.{told, Judges}
-use Rattle.client.specs.declared.Judged.{Judged}
+use Rattle.client.specs.Judged.{told}
 use Rattle.client.specs.declared.Verdict.{Verdict}
-use Rattle.client.specs.declared.Verdict.TheVariants.{Next, Again, Refused as NotNow}
-use Rattle.refusal.specs.Answer.{Answer, accepted, and_then}
-use Rattle.refusal.specs.Refusal.{checked}
+use Rattle.client.specs.declared.Verdict.TheVariants.{Next, Again}
+use Rattle.refusal.specs.Answer.{accepted, and_then}
+use Rattle.refusal.specs.Refusal.{said, checked}
 use Rattle.refusal.specs.declared.Refusal.{Refusal}
-use Rattle.refusal.proofs.Numbered.{numbered}
-use Rattle.refusal.specs.declared.Check.{Check}
-use Rattle.refusal.specs.declared.Check.TheVariants.{Passed, Refused as Stopped}
-use Rattle.refusal.specs.Result.{Gives}
-use Rattle.input.specs.Form.{users, user, handle, flag, behind_memory, sent, records, first_marks, first_records, formed}
-use Rattle.input.specs.Report.{Judgement, answer, sixteen, answered, judgement, Reports}
-use Rattle.input.specs.declared.Report.{Report}
-use Rattle.input.specs.declared.Outcome.TheVariants.{OtherForm, Accepted, Refused}
-use Rattle.input.proofs.Apart.{memory_is}
-
--- The judgement of a call that answers c and leaves `new`.
-abbrev due : List ℕ → Check → Judgement
-due new c = answer (and_then (checked new c) (λ s. accepted (sixteen s)))
-
-pub told_passed :
-    (N u : ℕ) (new cs : List ℕ) (c : Check) → c ≡ Passed → cs ≡ sixteen new →
-    Reports (due new c) N u (record { outcome = Accepted; users = N; user = u; counts = cs })
-told_passed N u new cs c e q = rw (e, q) (record { says = refl; counts = refl; users = refl; user = refl })
-
-pub told_refused :
-    (N u : ℕ) (new : List ℕ) (c : Check) (r : Refusal) → c ≡ Stopped r →
-    Reports (due new c) N u (record { outcome = Refused r; users = N; user = u; counts = replicate 16 0 })
-told_refused N u new c r e =
-    let q = (numbered r).3 (List ℕ) in
-    rw e (record { says = rw q; counts = rw q; users = refl; user = refl })
-
--- What is remembered in an input is none, or as long as a structure.
-pub memory_long :
-    (input : List ℕ) (start : ℕ) → start ≤ length input → (start ≡ 35) ⊎ (start ≡ 133) →
-    (length (take (start - 35) (drop 35 input)) ≡ 0) ⊎ (length (take (start - 35) (drop 35 input)) ≡ 98)
-memory_long input start l h =
-    let e = length-take-le (start - 35) (drop 35 input) (omega (arith, length-drop 35 input)) in
-    ⊎_elim (λ a. inl (e ∙ omega arith)) (λ a. inr (e ∙ omega arith)) h
+use Rattle.refusal.proofs.Match.{returned}
+use Rattle.refusal.proofs.Numbered.{numbered, ends}
+use Rattle.input.specs.Form.{users, user, handle, memory, sent, first_marks, first_records, formed}
+use Rattle.input.specs.Report.{answer, sixteen, answered, judgement, told as told_by}
+use Rattle.input.specs.declared.Parts.{Parts}
 
 -- The answer of the two calls on the file of what is remembered is the one that the definition gives: that of a refused check, or of the making
 -- step after an accepted one. The file is never answered with "send again".
@@ -61,68 +32,59 @@ module _
     (mem f list marks : List ℕ)
     (long : (length mem ≡ 0) ⊎ (length mem ≡ 98))
     (of : f ≡ file_of mem)
-    (j : Judged)
-    (g : Judges (check_file N u f list marks) j)
+    (j : Result Verdict Refusal)
+    (g : told j ≡ check_file N u f list marks)
   where
     -- What is judged, as the verdict that it is.
-    judged_as : {v : Verdict} → j.verdict ≡ v → as_verdict (check N u mem list marks) ≡ told v j.counts j.again
+    judged_as : {v : Result Verdict Refusal} → j ≡ v → as_verdict (check N u mem list marks) ≡ told v
     judged_as e =
         sym (moved.check_moved N u mem list marks long) ∙
-        (ap (λ (x : List ℕ). check_file N u x list marks) (sym of) ∙ (sym g.says ∙ ap (λ (v : Verdict). told v j.counts j.again) e))
+        (ap (λ (x : List ℕ). check_file N u x list marks) (sym of) ∙ (sym g ∙ ap told e))
 
-    pub told_again : {A : Type 0} → j.verdict ≡ Again → A
-    told_again e = absurd (not_again (check N u mem list marks) j.again (judged_as e))
+    pub told_again : {A : Type 0} {bytes : List ℕ} → j ≡ Ok (Again bytes) → A
+    told_again {bytes = bytes} e = absurd (not_again (check N u mem list marks) bytes (judged_as e))
 
-    module _ (handle : List ℕ) (r : Report) where
+    module _ (handle : List ℕ) where
       pub told_check :
-          (s : Refusal) → j.verdict ≡ NotNow s → Reports (due [] (Stopped s)) N u r →
-          Reports (answered N u mem list marks handle) N u r
+          {r : Refusal} (a : Result (List ℕ) Refusal) → j ≡ Err r → IsErrAnd a (λ s. s ≡ r) →
+          answer (said a) ≡ answered N u mem list marks handle
       unfolding answered
-      told_check s e p =
-          let q = numbered s in
-          rw (refusal_of (check N u mem list marks) q.0 q.1 q.2 (judged_as e ∙ q.3 Due)) (rw (q.3 (List ℕ)) at p)
+      told_check {r} a e h =
+          let q = numbered r in
+          rw (returned h, refusal_of (check N u mem list marks) q.0 q.1 q.2 (judged_as e ∙ q.3 Due)) (ap answer (q.3 (List ℕ)))
 
-      pub told_making :
-          (old after : List ℕ) (m : Check) → j.verdict ≡ Next → Gives (create_file N u f j.counts handle 98) old after m →
-          Reports (due after m) N u r → Reports (answered N u mem list marks handle) N u r
-      unfolding answered
-      told_making old after m e k p =
-          let made : checked after m ≡ create N u mem j.counts handle 98 =
-          k.answers ∙ (ap (λ (x : List ℕ). create_file N u x j.counts handle 98) of ∙ moved.create_moved N u mem j.counts handle 98 long)
-          in
-          rw (accepted_counts (check N u mem list marks) j.counts (judged_as e))
-          (subst (λ (d : Answer (List ℕ)). Reports (answer (and_then d (λ s. accepted (sixteen s)))) N u r) made p)
+      module _ {counts : List ℕ} (e : j ≡ Ok (Next counts)) (new : List ℕ) (m : Result Unit Refusal)
+          (k : checked new m ≡ create_file N u f counts handle 98) where
+        made : answered N u mem list marks handle ≡ answer (and_then (checked new m) (λ s. accepted (sixteen s)))
+        unfolding answered
+        made =
+            rw (
+              accepted_counts (check N u mem list marks) counts (judged_as e),
+              k ∙ (ap (λ (x : List ℕ). create_file N u x counts handle 98) of ∙ moved.create_moved N u mem counts handle 98 long),
+            )
 
--- The parts that the code lends are the input's.
-module _
-    (input list marks : List ℕ)
-    (start n : ℕ)
-    (f : formed input ≡ true)
-    (es : start ≡ behind_memory (flag input))
-    (en : n ≡ (length input - start) / 99)
-    (el : list ≡ first_records (take (length input - start) (drop start input)) n)
-    (em : marks ≡ first_marks (take (length input - start) (drop start input)) n) where
-  behind : take (length input - start) (drop start input) ≡ sent input
-  behind =
-      take_all (length input - start) (drop start input) (omega (arith, length-drop start input)) ∙ ap (λ k. drop k input) es
+        pub told_unmade : {r : Refusal} (a : Result (List ℕ) Refusal) → m ≡ Err r → IsErrAnd a (λ s. s ≡ r) → answer (said a) ≡ answered N u mem list marks handle
+        told_unmade {r} a n h = rw (returned h, made, n) (ap answer (sym (ends r (λ s. accepted (sixteen s)))))
 
-  number : n ≡ records input
-  number = en ∙ ap (λ k. k / 99) (ap (λ k. length input - k) es ∙ sym (length-drop (behind_memory (flag input)) input))
+        pub told_made : {x : Unit {0}} (cs : List ℕ) → m ≡ Ok x → cs ≡ sixteen new → answer (accepted cs) ≡ answered N u mem list marks handle
+        told_made cs n q = rw (made, n, q)
 
-  all_parts :
-      answered (users input) (user input) (take (start - 35) (drop 35 input)) list marks (handle input) ≡ judgement input
-  unfolding judgement
-  all_parts = rw (f, el, em, behind, number, es, memory_is input)
-
-  pub told_input :
-      (r : Report) →
-      Reports (answered (users input) (user input) (take (start - 35) (drop 35 input)) list marks (handle input)) (users input) (user input) r →
-      Reports (judgement input) (users input) (user input) r
-  told_input r h = subst (λ (d : Judgement). Reports d (users input) (user input) r) all_parts h
-
--- An input of another form.
-pub told_other :
-    (input : List ℕ) (n v : ℕ) → formed input ≡ false → n ≡ users input → v ≡ user input →
-    Reports (judgement input) (users input) (user input) (record { outcome = OtherForm; users = n; user = v; counts = replicate 16 0 })
+-- What is answered of an input's parts is answered of the input.
+pub told_parts :
+    (input : List ℕ) (p : Option Parts) (r : Option (Result (List ℕ) Refusal)) →
+    is_some p ≡ formed input →
+    IfSome p (λ x. x.handle.now ≡ handle input) →
+    IfSome p (λ x. x.memory.now ≡ memory input) →
+    IfSome p (λ x. x.sent.now ≡ sent input) →
+    MatchOption p (r ≡ None)
+    (λ x.
+    IsSomeAnd r
+    (λ a.
+    answer (said a) ≡
+    answered (users input) (user input) x.memory.now (first_records x.sent.now (parts 99 x.sent.now)) (first_marks x.sent.now (parts 99 x.sent.now))
+    x.handle.now)) →
+    told_by r ≡ judgement input
 unfolding judgement
-told_other input n v f en ev = rw f (record { says = refl; counts = refl; users = en; user = ev })
+told_parts input None r f h m s c = rw (c, ← f) refl
+told_parts input (Some x) None f h m s c = absurd c
+told_parts input (Some x) (Some a) f h m s c = rw (← f) (c ∙ rw (h, m, s) refl)

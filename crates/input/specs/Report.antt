@@ -1,15 +1,14 @@
 -- What the desk program says of its input.
-use Rattle.std.specs.Prelude.{ℕ, cond, List, ◌≡◌, replicate}
+use Rattle.std.specs.Prelude.{ℕ, cond, List, ◌≡◌, Option, None, Some, Result}
 use Rattle.layout.specs.Bytes.{values}
 use Rattle.protocol.specs.Version.{size, count}
 use Rattle.protocol.specs.Check.{check}
 use Rattle.protocol.specs.Create.{create}
-use Rattle.refusal.specs.Answer.{Answer, accepted, refused, and_then}
-use Rattle.refusal.specs.Refusal.{refusal}
+use Rattle.refusal.specs.Answer.{Answer, accepted, and_then}
+use Rattle.refusal.specs.Refusal.{said}
+use Rattle.refusal.specs.declared.Refusal.{Refusal}
 use Rattle.input.specs.Form.{users, user, memory, list, marks, handle, formed}
 use Rattle.input.specs.declared.Report.{Report}
-use Rattle.input.specs.declared.Outcome.{Outcome}
-use Rattle.input.specs.declared.Outcome.TheVariants.{OtherForm, Accepted, Refused}
 
 -- The input is of another form, or the check of its parts and the making step answer.
 pub data Judgement : Type 0 where
@@ -35,21 +34,13 @@ judgement input =
     (answered (users input) (user input) (memory input) (list input) (marks input) (handle input))
     other_form
 
--- The number and the positions of each outcome, and the counts beside it.
-abbrev pub told : Outcome → List ℕ → Judgement
-told OtherForm counts = other_form
-told Accepted counts = answer (accepted counts)
-told (Refused r) counts = answer (refusal r)
-
--- The counts of a judgement: sixteen zeros where nothing is accepted.
-abbrev pub counts_of : Judgement → List ℕ
-counts_of other_form = replicate 16 0
-counts_of (answer (accepted counts)) = counts
-counts_of (answer (refused n p q)) = replicate 16 0
+-- The judgement that a report's answer tells: none is that of another form.
+abbrev pub told : Option (Result (List ℕ) Refusal) → Judgement
+told None = other_form
+told (Some judged) = answer (said judged)
 
 -- The report r tells this judgement, and the two numbers of "`desk`, u, `of`, N".
 pub record Reports (due : Judgement) (N u : ℕ) (r : Report) : Type 0 where
-  pub says : told r.outcome r.counts ≡ due
-  pub counts : r.counts ≡ counts_of due
+  pub says : told r.judged ≡ due
   pub users : r.users ≡ N
   pub user : r.user ≡ u

@@ -6,165 +6,145 @@
 // every input of any length.
 #![tactic(auto)]
 
-ghost use Rattle.std.specs.Prelude.{◌≡◌, true, ◌⊎◌, ◌*◌, ◌-◌, ◌≤◌, length, take, drop};
-ghost use Rattle.refusal.specs.Answer.{accepted, and_then};
-ghost use Rattle.refusal.specs.Refusal.{checked as checked_of};
-ghost use Rattle.input.specs.Form.{users as users_of, user as user_of, handle as handle_of, formed as formed_of, behind_memory, first_marks, first_records};
-ghost use Rattle.input.specs.Report.{Judgement, sixteen, answered, judgement, Reports};
+ghost use Rattle.std.specs.Prelude.{◌≡◌, ◌⊎◌, ◌+◌, ◌*◌, ◌%◌, ◌<◌, ◌≤◌, [], length, is_some, IfSome, MatchOption};
+ghost use Rattle.layout.specs.Bytes.{parts};
+ghost use Rattle.refusal.specs.Refusal.{said};
+ghost use Rattle.input.specs.Form.{users as users_of, user as user_of, handle as handle_of, memory as memory_of, sent as sent_of, formed, behind_memory, first_marks, first_records};
+ghost use Rattle.input.specs.Report.{answer, answered, judgement, Reports};
 
+use arrayvec::ArrayVec;
 use client::Verdict;
 use protocol::RECORDS;
 use refusal::Refusal;
 use version::SIZE;
 
-// Where the handle, the flag and the remembered structure stand, the place after that structure, and the
-// bytes of a mark with its record.
+// Where the handle, the flag and what is remembered stand, the bytes of a mark with its record, and those of
+// the longest input.
 const HANDLE: usize = 2;
 
 const FLAG: usize = 34;
 
 const MEMORY: usize = 35;
 
-const AFTER_MEMORY: usize = 133;
-
 const MARKED: usize = 99;
 
-// What is said of an input.
-#[derive(Clone, Copy)]
-pub enum Outcome {
-    OtherForm,
-    Accepted,
-    Refused(Refusal),
-}
+const LONGEST: usize = 1717;
 
-// The outcome; the input's first two bytes, 0 where it has none; and the counts of the accepted
-// structure, zeros where nothing is accepted.
+// What is said of an input: its first two bytes, 0 where it has none; and, unless it is of another form, the
+// refusal, or the counts of the accepted structure.
 #[derive(Clone, Copy)]
 pub struct Report {
-    pub outcome: Outcome,
     pub users: u8,
     pub user: u8,
-    pub counts: [u32; 16],
+    pub judged: Option<Result<[u32; 16], Refusal>>,
 }
 
-// The place after the remembered structure, or after the flag that says that there is none.
-fn behind_memory(flag: u8) -> usize
-    ensures { (result ≡ behind_memory flag) × (35 ≤ result) × ((result ≡ 35) ⊎ (result ≡ 133)) }
-{
-    if flag == 1 {
-        return AFTER_MEMORY;
-    }
-    MEMORY
+// The parts of an input of the stated form behind its first two bytes: the handle, the remembered structure (no
+// bytes for none), and what the server sent.
+#[derive(Clone, Copy)]
+struct Parts<'a> {
+    handle: &'a [u8],
+    memory: &'a [u8],
+    sent: &'a [u8],
+    ghost none_or_one: { (length memory.now % 98 ≡ 0) × (length memory.now ≤ 98) },
+    ghost sixteen_at_most: { length sent.now < 17 * 99 },
 }
 
-// Whether the input is of the stated form. A length of at most 1,717 leaves room for sixteen records at most.
-fn formed(input: &[u8]) -> bool
-    ensures { result ≡ formed_of input.now }
+// How many bytes are remembered, by the flag, which is 0 or 1.
+fn remembered(flag: u8) -> Option<usize>
+    ensures { MatchOption result (1 < flag) (λ n. (flag ≤ 1) × (35 + n ≡ behind_memory flag)) }
 {
-    if input.len() < MEMORY {
-        return false;
-    }
-    if 1717 < input.len() {
-        return false;
-    }
-    let flag = input[FLAG];
-    if 1 < flag {
-        return false;
-    }
-    let start = behind_memory(flag);
-    if input.len() < start {
-        return false;
-    }
-    if (input.len() - start) % MARKED != 0 {
-        return false;
-    }
-    true
-}
-
-// The n marks and the n records of what the server sent, each to the front of its buffer.
-fn take_apart(sent: &[u8], n: usize, marks: &mut [u8], list: &mut [u8])
-    requires n_in_bounds { 99 * n ≤ length sent.now }
-    requires n_bound { n ≤ 16 }
-    requires marks_len { length marks.old ≡ 16 }
-    requires list_len { length list.old ≡ 1568 }
-    ensures marks { (length marks.new ≡ 16) × (take n marks.new ≡ first_marks sent.now n) }
-    ensures list { (length list.new ≡ 1568) × (take (98 * n) list.new ≡ first_records sent.now n) }
-{
-    let mut i = 0;
-    while i < n {
-        marks[i] = sent[MARKED * i];
-        layout::copy(
-            &sent[MARKED * i + 1..MARKED * i + MARKED],
-            &mut list[SIZE * i..SIZE * i + SIZE],
-        );
-        i += 1;
+    match flag {
+        0 => Some(0),
+        1 => Some(SIZE),
+        _ => None,
     }
 }
 
-// The report of a call's answer, given what the making step left in the buffer of the new structure.
-fn tell(users: u8, user: u8, answer: Result<(), Refusal>, new: &[u8]) -> Report
-    ensures { Reports (Judgement.answer (and_then (checked_of new.now answer) (λ s. accepted (sixteen s)))) users user result }
+// The parts of an input, if it is of the stated form. A length of at most 1,717 leaves room for sixteen records at most.
+fn parse(input: &[u8]) -> Option<Parts<'_>>
+    ensures variant { is_some result ≡ formed input.now }
+    ensures handle { IfSome result (λ p. p.handle.now ≡ handle_of input.now) }
+    ensures memory { IfSome result (λ p. p.memory.now ≡ memory_of input.now) }
+    ensures sent { IfSome result (λ p. p.sent.now ≡ sent_of input.now) }
 {
-    match answer {
-        Ok(()) => {
-            let counts = version::counts(new);
-            Report {
-                outcome: Outcome::Accepted,
-                users,
-                user,
-                counts,
-            }
-        }
-        Err(refusal) => Report {
-            outcome: Outcome::Refused(refusal),
-            users,
-            user,
-            counts: [0u32; 16],
-        },
+    if input.len() < MEMORY || LONGEST < input.len() {
+        return None;
+    }
+    let (head, rest) = input.split_at(MEMORY);
+    let n = remembered(head[FLAG])?;
+    if rest.len() < n {
+        return None;
+    }
+    let (memory, sent) = rest.split_at(n);
+    if sent.len() % MARKED != 0 {
+        return None;
+    }
+    Some(Parts {
+        handle: &input[HANDLE..FLAG],
+        memory,
+        sent,
+    })
+}
+
+// The marks and the records of what the server sent, each after the last.
+fn take_apart(sent: &[u8], marks: &mut ArrayVec<u8, 16>, list: &mut ArrayVec<u8, RECORDS>)
+    requires sent_len { length sent.now < 17 * 99 }
+    requires no_marks { marks.old.items ≡ [] }
+    requires no_list { list.old.items ≡ [] }
+    ensures marks { marks.new.items ≡ first_marks sent.now (parts 99 sent.now) }
+    ensures list { list.new.items ≡ first_records sent.now (parts 99 sent.now) }
+{
+    for i in 0..sent.len() / MARKED {
+        marks.push(sent[MARKED * i]);
+        list.try_extend_from_slice(&sent[MARKED * i + 1..MARKED * i + MARKED])
+            .unwrap();
     }
 }
 
-// The report on the check of these marks and records, and on the making step after it, with all else
-// as it stands in the input. Both take a memory file: that of what is remembered, which is laid out
-// unjudged, since it is the check that judges it, in its turn. Such a file is not pending, so that the
-// check never says "send again"; 5 would be told.
-fn ask(input: &[u8], start: usize, list: &[u8], marks: &[u8]) -> Report
-    requires le_start { 35 ≤ start }
-    requires start_in_bounds { start ≤ length input.now }
-    requires fact { (start ≡ 35) ⊎ (start ≡ 133) }
-    ensures { Reports
-        (answered (users_of input.now) (user_of input.now) (take (start - 35) (drop 35 input.now))
-        list.now marks.now (handle_of input.now))
-        (users_of input.now) (user_of input.now) result }
+// The check of what is remembered and of these records and marks, and the making step after it. Both take a
+// memory file: that of what is remembered, which is laid out unjudged, since it is the check that judges it, in
+// its turn. Such a file is not pending, so that the check never says "send again"; 5 would be told.
+fn ask(
+    users: u8,
+    user: u8,
+    handle: &[u8],
+    memory: &[u8],
+    list: &[u8],
+    marks: &[u8],
+) -> Result<[u32; 16], Refusal>
+    requires { (length memory.now ≡ 0) ⊎ (length memory.now ≡ 98) }
+    ensures { answer (said result) ≡ answered users user memory.now list.now marks.now handle.now }
 {
-    let users = input[0];
-    let user = input[1];
-    let file = memory::file_of(&input[MEMORY..start]);
-    let judged = client::check(users, user, &file, list, marks);
-    let verdict = judged.verdict;
+    let file = memory::file_of(memory);
+    let verdict = client::check(users, user, &file, list, marks)?;
     match verdict {
-        Verdict::Next => {
-            let counts = judged.counts;
+        Verdict::Next(counts) => {
             let mut new = [0u8; SIZE];
-            let made = create::create(users, user, &file, &counts, &input[HANDLE..FLAG], &mut new);
-            tell(users, user, made, &new)
+            create::create(users, user, &file, &counts, handle, &mut new)?;
+            Ok(version::counts(&new))
         }
-        Verdict::Again => tell(users, user, Err(Refusal::NotCurrent), &file),
-        Verdict::Refused(refusal) => tell(users, user, Err(refusal), &file),
+        Verdict::Again(_) => Err(Refusal::NotCurrent),
     }
 }
 
-// The report on an input of the stated form.
-fn checked(input: &[u8]) -> Report
-    requires { formed_of input.now ≡ true }
-    ensures { Reports (judgement input.now) (users_of input.now) (user_of input.now) result }
+// The answer to an input of which these are the parts.
+fn checked(users: u8, user: u8, input: &Parts) -> Result<[u32; 16], Refusal>
+    ensures { answer (said result) ≡ answered users user input.now.memory.now
+        (first_records input.now.sent.now (parts 99 input.now.sent.now))
+        (first_marks input.now.sent.now (parts 99 input.now.sent.now)) input.now.handle.now }
 {
-    let start = behind_memory(input[FLAG]);
-    let n = (input.len() - start) / MARKED;
-    let mut marks = [0u8; 16];
-    let mut list = [0u8; RECORDS];
-    take_apart(&input[start..], n, &mut marks, &mut list);
-    ask(input, start, &list[..SIZE * n], &marks[..n])
+    let mut marks = ArrayVec::new();
+    let mut list = ArrayVec::new();
+    take_apart(input.sent, &mut marks, &mut list);
+    ask(
+        users,
+        user,
+        input.handle,
+        input.memory,
+        list.as_slice(),
+        marks.as_slice(),
+    )
 }
 
 // The report on an input: it is of another form, or it holds u, N and all that the two calls are asked
@@ -174,15 +154,11 @@ fn checked(input: &[u8]) -> Report
 pub fn judge(input: &[u8]) -> Report
     ensures { Reports (judgement input.now) (users_of input.now) (user_of input.now) result }
 {
-    if formed(input) {
-        return checked(input);
-    }
     let users = layout::byte_at(input, 0);
     let user = layout::byte_at(input, 1);
     Report {
-        outcome: Outcome::OtherForm,
         users,
         user,
-        counts: [0u32; 16],
+        judged: parse(input).map(|parts| checked(users, user, &parts)),
     }
 }

@@ -1,12 +1,12 @@
--- The report of the checked input, or that of another form.
-use mathlib.Core.Path.{sym, ◌∙◌}
-use Rattle.input.proofs.Told.{told_other}
+-- The answer is that of the parts, and none where the input has none.
+use Rattle.std.proofs.Common.{rules}
+use Rattle.input.proofs.Told.{told_parts}
 use Rattle.input.proofs.judge.Goals as goal
-
-pub checked-requires : goal.checked-requires
-checked-requires c = sym c.formed.ensures ∙ c.if-formed.true
 
 pub returns : goal.returns
 returns c =
-    told_other _ _ _ (sym c.formed.ensures ∙ c.if-formed.false) c.byte_at-users.ensures
-    c.byte_at-user.ensures
+    let p = c.parse.ensures in record {
+      says = told_parts c.args.input.now _ _ p.variant p.handle p.memory p.sent (search rules);
+      users = c.byte_at-users.ensures;
+      user = c.byte_at-user.ensures;
+    }
