@@ -17,7 +17,7 @@ ghost use Rattle.inode.specs.Internal.Named.{named_steps, form_steps};
 ghost use Rattle.inode.specs.Internal.Fitting.{hashes_fit, kind_steps};
 ghost use Rattle.inode.specs.Internal.Reading.{spanned};
 
-use refusal::Refusal;
+use refusal::{Refusal, Results};
 
 // The bytes of a hash, and of a file's block that is not the last.
 const HASH: usize = 32;
@@ -50,6 +50,17 @@ const FORM: Form = Form {
 pub struct Span {
     pub offset: usize,
     pub size: usize,
+}
+
+// In C the offset is the first result, and the length the second.
+impl Results for Span {
+    ghost first = { λ s. s.offset };
+
+    ghost second = { λ s. s.size };
+
+    fn results(self) -> (usize, usize) {
+        (self.offset, self.size)
+    }
 }
 
 // The number of blocks of a file of this length.
