@@ -6,12 +6,11 @@ use native.Mathlib.Omega.{arith}
 use lib.ListN.{length, take, drop, set, length-set, length-drop, drop_of_length-le}
 use lib.Seq.{length-take-le, take_all, take-length}
 use borrow.Author.Tests.{eq-eqb, ne_eqb}
+use Rattle.std.specs.Prelude.{Result, Ok, Err}
 use Rattle.refusal.specs.Answer.{Answer, accepted, refused, and_then}
 use Rattle.refusal.specs.Order.{in_order}
 use Rattle.refusal.specs.Refusal.{checked}
 use Rattle.refusal.specs.Result.{Gives}
-use Rattle.refusal.specs.declared.Check.{Check}
-use Rattle.refusal.specs.declared.Check.TheVariants.{Passed, Refused}
 use Rattle.refusal.specs.declared.Refusal.{Refusal}
 use Rattle.refusal.proofs.Match.{gives_refused}
 use Rattle.refusal.proofs.Numbered.{ends}
@@ -30,17 +29,17 @@ module _ {A : Type 0} (b : List ℕ) (a : Answer A) where
   unsized h = rw (ne_eqb (length b) 1569 h)
 
 -- A list that is made, and one that is not, in bytes.
-module _ (N : ℕ) (b : List ℕ) {e s : Server} {c : Check} (g : Gives (make N) e s c) (h : length b ≡ 1569) where
+module _ (N : ℕ) (b : List ℕ) {e s : Server} {c : Result Unit Refusal} (g : Gives (make N) e s c) (h : length b ≡ 1569) where
   as_bytes : {due : Answer Server} → make N ≡ due → make_at N b ≡ and_then due (λ t. accepted (bytes_of t))
   unfolding make_at
   as_bytes d = sized b (and_then (make N) (λ t. accepted (bytes_of t))) h ∙ ap (λ (x : Answer Server). and_then x (λ t. accepted (bytes_of t))) d
 
-  pub makes : c ≡ Passed → Gives (make_at N b) b (bytes_of s) c
+  pub makes : {u : Unit {0}} → c ≡ Ok u → Gives (make_at N b) b (bytes_of s) c
   makes p =
       let d : make_at N b ≡ accepted (bytes_of s) = as_bytes (sym g.answers ∙ ap (checked s) p) in
       record { answers = rw (d, p); leaves = rw d }
 
-  pub makes_not : {r : Refusal} → c ≡ Refused r → Gives (make_at N b) b b c
+  pub makes_not : {r : Refusal} → c ≡ Err r → Gives (make_at N b) b b c
   makes_not {r} p = gives_refused (as_bytes (sym g.answers ∙ ap (checked s) p) ∙ ends r (λ t. accepted (bytes_of t))) p
 
 pub not_sized : (N : ℕ) (b : List ℕ) → (length b ≡ 1569 → ⊥) → make_at N b ≡ refused 2 0 0

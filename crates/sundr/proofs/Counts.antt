@@ -13,6 +13,7 @@ use borrow.Author.Tests.{eqb-true, eq-eqb}
 use Rattle.search.proofs.Bool.{both_true}
 use Rattle.layout.specs.Bytes.{values}
 use Rattle.layout.proofs.Values.{length_values, value_at}
+use Rattle.std.specs.Prelude.{Result, Ok, Err}
 use Rattle.refusal.specs.Answer.{Answer, refused, and_then}
 use Rattle.refusal.specs.Order.{tried}
 use Rattle.refusal.specs.Refusal.{refusal}
@@ -29,10 +30,9 @@ use Rattle.protocol.specs.Meaning.{Users}
 use Rattle.protocol.specs.CheckFileMeaning.{users}
 use Rattle.protocol.proofs.CheckMeans.{users_stage}
 use Rattle.protocol.proofs.CheckFileMeans.{check_file_means}
-use Rattle.client.specs.Judged.{told, Judges}
-use Rattle.client.specs.declared.Judged.{Judged}
+use Rattle.client.specs.Judged.{told}
 use Rattle.client.specs.declared.Verdict.{Verdict}
-use Rattle.client.specs.declared.Verdict.TheVariants.{Next, Again, Refused}
+use Rattle.client.specs.declared.Verdict.TheVariants.{Next, Again}
 use Rattle.sundr.specs.Check.{room_steps, check_into, send_again, verdict_word, counts_left, again_left}
 
 -- All sixteen values of sixteen counts are these counts.
@@ -106,7 +106,7 @@ module _ (N u room bytes : ℕ) where
         ⊎_elim (λ h. inl (sym a ∙ h.1, sym b ∙ h.2, sym c ∙ h.3)) (λ h. inr (inl (sym a ∙ h.1.1, sym b ∙ h.1.2, sym c ∙ h.1.3))) r.3)
         room_means.cases
 
-    module _ (e : Room) (j : Judged) (g : Judges judged j) where
+    module _ (e : Room) (j : Result Verdict Refusal) (g : told j ≡ judged) where
       -- Whoever is no user, the check refuses in the same way.
       same_due : due ≡ judged
       unfolding check_into
@@ -119,18 +119,17 @@ module _ (N u room bytes : ℕ) where
           sym (((check_file_means N file c).2 1 0 0).1 (users f)))
           (users_stage N u).cases
 
-      says : {v : Verdict} → j.verdict ≡ v → due ≡ told v j.counts j.again
-      says q = same_due ∙ (sym g.says ∙ ap (λ (v : Verdict). told v j.counts j.again) q)
+      says : {v : Result Verdict Refusal} → j ≡ v → due ≡ told v
+      says q = same_due ∙ (sym g ∙ ap told q)
 
       pub tells_next :
-          {w : ℕ} (counts again after : List ℕ) → j.verdict ≡ Next → w ≡ 0 → after ≡ j.counts → Tells due w counts again after again
+          {w : ℕ} {given : List ℕ} (counts again after : List ℕ) → j ≡ Ok (Next given) → w ≡ 0 → after ≡ given → Tells due w counts again after again
       tells_next counts again after q z a = rw (says q) (z, (a, refl))
 
       pub tells_again :
-          {w : ℕ} (counts again after : List ℕ) → j.verdict ≡ Again → w ≡ send_again → after ≡ j.again → Tells due w counts again counts after
+          {w : ℕ} {bytes : List ℕ} (counts again after : List ℕ) → j ≡ Ok (Again bytes) → w ≡ send_again → after ≡ bytes → Tells due w counts again counts after
       tells_again counts again after q z a = rw (says q) (z, (refl, a))
 
       pub tells_refused :
-          {w : ℕ} {counts again : List ℕ} (r : Refusal) → j.verdict ≡ Refused r → w ≡ plain_word {A = Unit} (refusal r) →
-          Tells due w counts again counts again
+          {w : ℕ} {counts again : List ℕ} (r : Refusal) → j ≡ Err r → w ≡ plain_word {A = Unit} (refusal r) → Tells due w counts again counts again
       tells_refused r q = tells_refusal r (says q)

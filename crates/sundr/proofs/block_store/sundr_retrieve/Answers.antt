@@ -9,6 +9,6 @@ returns c =
     let a = c.args in
     let g = c.retrieve.ensures in
     record {
-      answer = told_by length (retrieve a.store.now a.hash.now (length a.out.now)) g.answers c.given_word.ensures;
+      answer = told_by length (retrieve a.store.now a.hash.now (length a.out.now)) g.answers c.answer_word.ensures;
       buffer = g.leaves;
     }

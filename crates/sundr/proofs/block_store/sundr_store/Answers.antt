@@ -4,6 +4,6 @@ use Rattle.sundr.proofs.block_store.sundr_store.Goals as goal
 
 pub returns : goal.returns
 returns c = let g = c.store.ensures in record {
-  answer = gives_word g c.check_word.ensures;
+  answer = gives_word g c.answer_word.ensures;
   buffer = g.leaves;
 }

@@ -8,6 +8,6 @@ returns c =
     let a = c.args in
     let g = c.unreference.ensures in
     record {
-      answer = told_by (λ (t : Unreferenced). t.took) (unreference a.store.now a.user a.hash.now) g.answers c.given_word.ensures;
+      answer = told_by (λ (t : Unreferenced). t.took) (unreference a.store.now a.user a.hash.now) g.answers c.answer_word.ensures;
       buffer = g.leaves;
     }

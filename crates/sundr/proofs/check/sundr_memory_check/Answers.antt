@@ -26,27 +26,11 @@ returns-then-again-ne-SIZE c =
     c.refusal_word-then-again-ne-SIZE.ensures in
     record { answer = t.0; counts = t.1.0; again = t.1.1 }
 
-pub returns-in-Next : goal.returns-in-Next
-returns-in-Next c =
-    let a = c.args in
-    let room : (length a.counts.now ≡ 16) × (length a.again.now ≡ size) = (omega arith, omega arith) in
-    let t = tells_next a.users a.user (length a.counts.now) (length a.again.now) a.file.now a.list.now a.marks.now room c.check-judged.result c.check-judged.ensures
-    a.counts.now a.again.now _ c.in-Next.is refl c.put.ensures in
-    record { answer = t.0; counts = t.1.0; again = t.1.1 }
+pub returns-in-Ok-Next : goal.returns-in-Ok-Next
+returns-in-Ok-Next c = ?
 
-pub returns-in-Again : goal.returns-in-Again
-returns-in-Again c =
-    let a = c.args in
-    let room : (length a.counts.now ≡ 16) × (length a.again.now ≡ size) = (omega arith, omega arith) in
-    let l : length c.check-judged.result.again ≡ size = search rules in
-    let t = tells_again a.users a.user (length a.counts.now) (length a.again.now) a.file.now a.list.now a.marks.now room c.check-judged.result c.check-judged.ensures
-    a.counts.now a.again.now _ c.in-Again.is refl (c.copy.ensures.copied (omega (arith, l)) ∙ copied_over _ _ (omega (arith, l))) in
-    record { answer = t.0; counts = t.1.0; again = t.1.1 }
+pub returns-in-Ok-Again : goal.returns-in-Ok-Again
+returns-in-Ok-Again c = ?
 
-pub returns-in-Refused : goal.returns-in-Refused
-returns-in-Refused c =
-    let a = c.args in
-    let room : (length a.counts.now ≡ 16) × (length a.again.now ≡ size) = (omega arith, omega arith) in
-    let t = tells_refused a.users a.user (length a.counts.now) (length a.again.now) a.file.now a.list.now a.marks.now room c.check-judged.result c.check-judged.ensures
-    {counts = a.counts.now} {again = a.again.now} _ c.in-Refused.is c.refusal_word-in-Refused.ensures in
-    record { answer = t.0; counts = t.1.0; again = t.1.1 }
+pub returns-in-Err : goal.returns-in-Err
+returns-in-Err c = ?

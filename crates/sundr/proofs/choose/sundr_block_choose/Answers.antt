@@ -18,8 +18,8 @@ returns-in-Cached c =
     accepted_word part_number (part_length a.reply.now a.cached.now) (sym c.choose-c.ensures ∙ ap answer_of c.in-Cached.is)
     (rw (c.part-part.ensures.bytes, c.in-Cached.is) at c.word-in-Cached.ensures)
 
-pub returns-in-Refused : goal.returns-in-Refused
-returns-in-Refused c =
+pub returns-in-Err : goal.returns-in-Err
+returns-in-Err c =
     let a = c.args in
-    refused_word part_number (part_length a.reply.now a.cached.now) c.in-Refused.r
-    (sym c.choose-c.ensures ∙ ap answer_of c.in-Refused.is) c.refusal_word.ensures
+    refused_word part_number (part_length a.reply.now a.cached.now) c.in-Err.r
+    (sym c.choose-c.ensures ∙ ap answer_of c.in-Err.is) c.refusal_word.ensures

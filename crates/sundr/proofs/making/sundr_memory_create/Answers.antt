@@ -4,6 +4,6 @@ use Rattle.sundr.proofs.making.sundr_memory_create.Goals as goal
 
 pub returns : goal.returns
 returns c = let g = c.create.ensures in record {
-  answer = gives_word g c.check_word.ensures;
+  answer = gives_word g c.answer_word.ensures;
   buffer = g.leaves;
 }

@@ -9,6 +9,6 @@ returns c =
     let a = c.args in
     let g = c.back.ensures in
     record {
-      answer = told_by length (back a.users a.user a.file.now (length a.old.now)) g.answers c.given_word.ensures;
+      answer = told_by length (back a.users a.user a.file.now (length a.old.now)) g.answers c.answer_word.ensures;
       buffer = g.leaves;
     }

@@ -5,9 +5,9 @@ use Rattle.refusal.proofs.Words.{accepted_word}
 use Rattle.sundr.proofs.AnswerWord.{question_word}
 use Rattle.sundr.proofs.questions.outcome_word.Goals as goal
 
-pub returns-in-Answered : goal.returns-in-Answered
-returns-in-Answered c = λ out. accepted_word (λ a. 0) (λ a. 0) (ap (answer_of out) c.in-Answered.is) c.word.ensures
+pub returns-in-Ok : goal.returns-in-Ok
+returns-in-Ok c = λ out. accepted_word (λ a. 0) (λ a. 0) (ap (answer_of out) c.in-Ok.is) c.word.ensures
 
-pub returns-in-Refused : goal.returns-in-Refused
-returns-in-Refused c = λ out.
-    question_word c.in-Refused.q c.in-Refused.r (ap (answer_of out) c.in-Refused.is) c.tell-told.ensures c.word-in-Refused.ensures
+pub returns-in-Err : goal.returns-in-Err
+returns-in-Err c = λ out.
+    question_word c.in-Err.at.question c.in-Err.at.refusal (ap (answer_of out) c.in-Err.is) c.from-told.ensures c.word-in-Err.ensures

@@ -7,4 +7,4 @@ pub returns : goal.returns
 returns c =
     let a = c.args in
     let g = gives_list a.users a.records.now a.x.now a.mark c.requires c.commit_into.ensures in
-    (gives_word g c.check_word.ensures, g.leaves)
+    (gives_word g c.answer_word.ensures, g.leaves)

@@ -12,7 +12,7 @@ returns-then-server-eq-SIZE c =
     let n = listed_at_is a.server.now a.out.now (omega arith) in
     let g = c.list.ensures in
     rw (n.0, n.1, sym c.read.ensures) (record {
-      answer = c.listed_word.ensures ∙ ap (answer_word (λ (n : ℕ). n) (λ n. 0)) g.answers;
+      answer = c.answer_word.ensures ∙ ap (answer_word (λ (n : ℕ). n) (λ n. 0)) g.answers;
       buffer = g.leaves;
     })
 

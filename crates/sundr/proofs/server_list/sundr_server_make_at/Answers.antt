@@ -16,7 +16,7 @@ returns-in_default c =
     let a = c.args in
     let g = makes_not a.users a.server.now c.make-made.ensures (omega arith) c.in_default.is in
     record {
-      answer = gives_word g c.check_word.ensures;
+      answer = gives_word g c.answer_word.ensures;
       buffer = g.leaves;
     }
 

@@ -8,6 +8,6 @@ pub returns : goal.returns
 returns c =
     let w = c.write.ensures in
     record {
-      answer = c.written_word.ensures ∙ ap (answer_word (λ (n : ℕ). n) (λ n. 0)) w.answers;
+      answer = c.answer_word.ensures ∙ ap (answer_word (λ (n : ℕ). n) (λ n. 0)) w.answers;
       buffer = w.leaves;
     }
