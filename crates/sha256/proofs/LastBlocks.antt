@@ -1,5 +1,5 @@
 -- The padded message's blocks: those of the message itself, then the one or two that the padding makes of the rest.
-use Rattle.std.proofs.Common.{◌≡◌, ℕ, zero, suc, ◌+◌, ◌-◌, ◌*◌, ◌/◌, ◌%◌, ◌^◌, ◌<◌, ◌≤◌, List, [], ◌∷◌, ◌++◌, length, take, drop, set, replicate, refl, ap, ◌∙◌, append_assoc, arith, length-append, length-drop, drop_of_length-le, take_all, drop-drop, take_at, drop_at}
+use Rattle.std.proofs.Common.{◌≡◌, ℕ, zero, suc, ◌+◌, ◌-◌, ◌*◌, ◌/◌, ◌%◌, ◌^◌, ◌<◌, ◌≤◌, List, [], ◌∷◌, ◌++◌, length, take, drop, set, replicate, refl, sym, ap, ◌∙◌, append_assoc, arith, length-append, length-drop, drop_of_length-le, take_all, drop-drop, take_at, drop_at}
 use lib.ListN.{length-replicate, replicate-append-replicate}
 use lib.Seq.{drop-append-le, take-length, set_at}
 use Rattle.layout.specs.Bytes.{bytes4, bytes8}
@@ -16,15 +16,25 @@ hashed_prefix m p zero h = refl
 hashed_prefix m p (suc i) h =
     rw (hashed_prefix m p i (omega arith), part_append 64 m p i (omega arith))
 
--- One block more, lent as the part of the message from `at` to `at + 64`.
-pub next_block : (m : List ℕ) (at : ℕ) (s r : State) →
-    at % 64 ≡ 0 → s ≡ hashed m (at / 64) → r ≡ compressed s (take (at + 64 - at) (drop at m)) → r ≡ hashed m ((at + 64) / 64)
-unfolding hashed
-next_block m at s r h e f =
-    let n : (at + 64) / 64 ≡ suc (at / 64) = omega arith in
-    let p : 64 * (at / 64) ≡ at = omega arith in
-    let q : at + 64 - at ≡ 64 = omega arith in
-    rw (n, p, f, e, q)
+-- One block more, the first 64 of the bytes after n blocks.
+module _ (m part left : List ℕ) (n : ℕ) (e : drop (64 * n) m ≡ part ++ left) (l : length part ≡ 64) where
+  part_is_next : part ≡ take 64 (drop (64 * n) m)
+  part_is_next = rw e (sym (take_at part left 64 l))
+
+  after : 64 * suc n ≡ 64 * n + 64
+  after = omega arith
+
+  pub next_within : 64 * suc n ≤ length m
+  next_within =
+      let long : length m - 64 * n ≡ 64 + length left = sym (length-drop (64 * n) m) ∙ ap length e ∙ (length-append part left ∙ rw l) in
+      omega arith
+
+  pub next_left : left ≡ drop (64 * suc n) m
+  next_left = rw (after, ← drop-drop 64 (64 * n) m, e) (sym (drop_at part left 64 l))
+
+  pub next_block : (s r : State) → s ≡ hashed m n → r ≡ compressed s part → r ≡ hashed m (suc n)
+  unfolding hashed
+  next_block s r h f = f ∙ rw h (ap (compressed (hashed m n)) part_is_next)
 
 -- The byte 128 and i + j zeros, parted after i of them.
 parted : (a : List ℕ) (i j : ℕ) → a ++ (128 ∷ replicate (i + j) 0) ≡ (a ++ (128 ∷ replicate i 0)) ++ replicate j 0

@@ -16,8 +16,8 @@ next_word w t =
 unfoldable pub rolled : List ℕ → ℕ → List ℕ
 rolled w t = slice_set w ((t + 16) % 16) (next_word w t)
 
--- What the contracts say of the array, w t before round t of the block b: `load` fills it, `turn` rolls it on in each of
--- the first 48 rounds, and `last_turn` is lent it to read.
+-- What the contracts say of the array, w t before round t of the block b: `load` fills it, and `turn` rolls it on in each of
+-- the first 48 rounds and leaves it in the others.
 pub record Queues (b : List ℕ) (w : ℕ → List ℕ) : Type 0 where
   pub first : w 0 ≡ loaded b
   pub turned : (t : ℕ) → t < 48 → w (t + 1) ≡ rolled (w t) t

@@ -3,24 +3,22 @@ ghost use Rattle.std.specs.Prelude.{◌≡◌, length};
 ghost use Rattle.sha256.specs.Sha256.{added, compressed};
 ghost use Rattle.sha256.specs.WordsTaken.{loaded};
 
-use crate::{K, State, rounds};
+use crate::State;
+use crate::rounds::{Queue, sixteen};
 
 // The words of the block. Its 64 bytes are there by contract: layout::u32_at would ask for their end
 // again, at 8 % more instructions.
-fn load(block: &[u8], w: &mut [u32; 16])
-    requires block_len { length block.now ≡ 64 }
-    requires w_len { length w.old ≡ 16 }
-    ensures { w.new ≡ loaded block.now }
+fn load(block: &[u8], w: &mut Queue)
+    requires { length block.now ≡ 64 }
+    ensures { w.new.words ≡ loaded block.now }
 {
-    let mut t = 0;
-    while t < 16 {
-        w[t] = layout::join(
+    for t in 0..16 {
+        w.words[t] = layout::join(
             block[4 * t],
             block[4 * t + 1],
             block[4 * t + 2],
             block[4 * t + 3],
         );
-        t += 1;
     }
 }
 
@@ -45,12 +43,10 @@ pub(crate) fn compress(s: State, block: &[u8]) -> State
     requires { length block.now ≡ 64 }
     ensures { result ≡ compressed s block.now }
 {
-    let mut w: [u32; 16] = [0; 16];
+    let mut w = Queue { words: [0; 16] };
     load(block, &mut w);
-    // Only literals index the table, so that the compiler keeps no copy of it.
-    let k = K;
-    let s1 = rounds::rounds_from_0(s, &k, &mut w);
-    let s2 = rounds::rounds_from_16(s1, &k, &mut w);
-    let s3 = rounds::rounds_from_32(s2, &k, &mut w);
-    add(s, rounds::rounds_from_48(s3, &k, &w))
+    let s1 = sixteen::<0>(s, &mut w);
+    let s2 = sixteen::<16>(s1, &mut w);
+    let s3 = sixteen::<32>(s2, &mut w);
+    add(s, sixteen::<48>(s3, &mut w))
 }

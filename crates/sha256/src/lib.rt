@@ -52,10 +52,7 @@ const LONGEST: usize = 65536;
 pub fn sha256(message: &[u8], out: &mut [u8]) -> Result<(), Refusal>
     ensures { Gives (hash message.now (length out.old)) out.old out.new result }
 {
-    if message.len() > LONGEST {
-        return Err(Refusal::Length(0));
-    }
-    if out.len() != 32 {
+    if message.len() > LONGEST || out.len() != 32 {
         return Err(Refusal::Length(0));
     }
     digest::write(out, padding::hash_value(message));
@@ -67,10 +64,6 @@ pub fn sha256(message: &[u8], out: &mut [u8]) -> Result<(), Refusal>
 pub fn is_hash(message: &[u8], wanted: &[u8]) -> bool
     ensures { result ≡ is_hash message.now wanted.now }
 {
-    if message.len() > LONGEST {
-        return false;
-    }
     let mut digest = [0u8; 32];
-    digest::write(&mut digest, padding::hash_value(message));
-    layout::equal(&digest, wanted)
+    sha256(message, &mut digest).is_ok() && layout::equal(&digest, wanted)
 }

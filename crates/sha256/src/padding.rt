@@ -25,10 +25,8 @@ fn blocks(message: &[u8]) -> State
     ensures { result ≡ hashed message.now (length message.now / 64) }
 {
     let mut s = initial();
-    let mut at = 0;
-    while 64 <= message.len() - at {
-        s = block::compress(s, &message[at..at + 64]);
-        at += 64;
+    for part in message.chunks_exact(64) {
+        s = block::compress(s, part);
     }
     s
 }

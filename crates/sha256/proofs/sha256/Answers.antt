@@ -1,7 +1,7 @@
 -- Each length that is refused is tested before the first store, and what is stored then is the hash value after the padding, whose
 -- bytes are the definition's. There is no loop here: the blocks' is in `blocks`.
 use Rattle.std.specs.Prelude.{Ok, Err}
-use Rattle.std.proofs.Common.{◌≡◌, ℕ, List, sym, ap, ◌∙◌}
+use Rattle.std.proofs.Common.{◌≡◌, ℕ, List, sym, ap, ◌∙◌, ⊎_elim}
 use Rattle.refusal.specs.Answer.{Answer, accepted, refused}
 use Rattle.refusal.specs.Result.{Gives}
 use Rattle.refusal.specs.declared.Refusal.TheVariants.{Length}
@@ -17,13 +17,9 @@ filled o e h = record { answers = rw (e, h); leaves = rw (e, h) }
 
 pub returns-then-message-gt-LONGEST : goal.returns-then-message-gt-LONGEST
 returns-then-message-gt-LONGEST c =
-    kept c.args.out.now
-    (hash_long c.args.message.now _ c.if-message-gt-LONGEST.true)
-
-pub returns-then-out-ne32 : goal.returns-then-out-ne32
-returns-then-out-ne32 c =
-    kept c.args.out.now
-    (hash_room c.args.message.now _ c.if-message-gt-LONGEST.false c.if-out-ne32.true)
+    let m = c.args.message.now in
+    let o = c.args.out.now in
+    kept o (⊎_elim (λ h. hash_long m _ h) (λ h. hash_room m _ h.0 h.1) c.then-message-gt-LONGEST.either)
 
 pub returns : goal.returns
 unfolding sha256

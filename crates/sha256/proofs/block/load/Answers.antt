@@ -5,20 +5,20 @@ use Rattle.sha256.proofs.block.load.Goals as goal
 
 pub loop-t-init : goal.loop-t-init
 unfolding values
-loop-t-init c = (omega arith, c.requires.w_len, refl)
+loop-t-init c = (c.args.w.now.long, refl)
 
 pub loop-t-preserved : goal.loop-t-preserved
 unfolding four
 loop-t-preserved c =
     let l = c.loop-t in
+    let words = l.w.words in
     let b = c.args.block.now in (
-      omega arith,
-      length-set l.w l.t c.join.result ∙ l.invariant.1,
-      filled (λ u. four b (4 * u)) l.w l.t c.join.result (omega arith) l.invariant.2 c.join.ensures,
+      length-set words l.t c.join.result ∙ l.invariant.0,
+      filled (λ u. four b (4 * u)) words l.t c.join.result (omega arith) l.invariant.1 c.join.ensures,
     )
 
 pub returns : goal.returns
 returns c =
     let l = c.loop-t in
     let e : l.t ≡ 16 = omega arith in
-    sym (take_all 16 l.w (omega (arith, l.invariant.1))) ∙ rw e at l.invariant.2
+    sym (take_all 16 l.w.words (omega (arith, l.invariant.0))) ∙ rw e at l.invariant.1

@@ -1,11 +1,15 @@
--- Each turn compresses the block that the definition names next, the part of the message from `at` (`next_block`). The invariant: `at`
--- stands at a block's start within the message, and `s` is the hash value after the blocks before it.
-use Rattle.std.proofs.Common.{◌≡◌, ◌-◌, ◌/◌, ◌%◌, ◌≤◌, length}
+-- Each turn compresses the block that the definition names next, the first 64 of the bytes that are left. The invariant: these are the
+-- bytes after the blocks before it, and `s` is the hash value after those.
+use Rattle.std.proofs.Common.{◌≡◌, ◌*◌, ◌≤◌, length, drop}
 use Rattle.sha256.specs.Sha256.{hashed}
 use Rattle.sha256.proofs.padding.blocks.Given as goal
 
-abbrev pub invariant-loop-at : goal.invariant-loop-at
-invariant-loop-at l = (l.at ≤ length l.message) × (l.at % 64 ≡ 0) × (l.s ≡ hashed l.message (l.at / 64))
-
-abbrev pub decreases-loop-at : goal.decreases-loop-at
-decreases-loop-at l = length l.message - l.at
+abbrev pub invariant-loop-part : goal.invariant-loop-part
+invariant-loop-part l =
+    let n = length l.yielded in
+    record {
+      size : l.part-iterator.size ≡ 64;
+      within : 64 * n ≤ length l.message;
+      rest : l.part-iterator.rest.now ≡ drop (64 * n) l.message;
+      value : l.s ≡ hashed l.message n;
+    }

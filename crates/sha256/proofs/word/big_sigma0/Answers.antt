@@ -4,4 +4,4 @@ use Rattle.sha256.proofs.Rotation.{nested_both}
 use Rattle.sha256.proofs.word.big_sigma0.Goals as goal
 
 pub returns : goal.returns
-returns c = nested_both 2 11 20 c.args.x (omega arith) (omega arith) (omega arith)
+returns c = let e = nested_both 2 11 20 c.args.x (omega arith) (omega arith) (omega arith) in cc

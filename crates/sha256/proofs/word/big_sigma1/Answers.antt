@@ -4,4 +4,4 @@ use Rattle.sha256.proofs.Rotation.{nested_twice}
 use Rattle.sha256.proofs.word.big_sigma1.Goals as goal
 
 pub returns : goal.returns
-returns c = nested_twice 6 5 14 c.args.x (omega arith) (omega arith)
+returns c = let e = nested_twice 6 5 14 c.args.x (omega arith) (omega arith) in cc
