@@ -63,6 +63,7 @@ pub fn write(numbers: &[u64], handles: &[u8], out: &mut [u8]) -> Result<usize, R
     let (fours, rest) = rest.split_at_mut(SIZE * f);
     let (fives, _) = rest.split_at_mut(SIZE * v);
     row::leaves(numbers, handles, leaves);
+    // Kept: a kind is a byte of the block, as `block::fill` takes it and `row` (itable) says it.
     row::inner(4, leaves, fours);
     row::inner(5, fours, fives);
     Ok(l + f + v)

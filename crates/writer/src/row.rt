@@ -50,6 +50,7 @@ pub(crate) fn inner(kind: u8, below: &[u8], out: &mut [u8])
     ensures { out.new ≡ row kind (children below.now 0 (parts 642 below.now)) 0 (parts 642 out.old) }
 {
     let n = below.len() / SIZE;
+    // Kept: two arrays side by side, since `block::fill` takes numbers and values as two slices.
     let mut numbers = [0u64; 16];
     let mut hashes = [0u8; 512];
     for k in 0..out.len() / SIZE {
