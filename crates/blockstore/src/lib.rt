@@ -59,11 +59,10 @@ fn admit(store: &[u8], user: u8, fits: bool) -> Result<(), Refusal>
     if !fits {
         return Err(Refusal::Length(0));
     }
-    let p = places::first_unfit(store);
-    if p < PLACES {
-        return Err(Refusal::Malformed(p));
+    match places::first_unfit(store) {
+        Some(p) => Err(Refusal::Malformed(p)),
+        None => Ok(()),
     }
-    Ok(())
 }
 
 // One more of a user at place p, which holds the block.
@@ -84,10 +83,9 @@ fn fill_free(store: &mut [u8], user: usize, block: &[u8]) -> Result<(), Refusal>
     requires { (length store.old ≡ store_size) × (user < 16) × (length block.now ≤ 8192) }
     ensures { Gives (filled_free store.old user block.now) store.old store.new result }
 {
-    let p = places::first_free(store);
-    if p == PLACES {
+    let Some(p) = places::first_free(store) else {
         return Err(Refusal::NoPlace);
-    }
+    };
     let at = PLACE * p;
     place::put(
         store,
@@ -106,12 +104,12 @@ pub fn store(store: &mut [u8], user: u8, block: &[u8]) -> Result<(), Refusal>
 {
     admit(store, user, block.len() <= BLOCK)?;
     let mut hash = [0u8; 32];
-    sha256::sha256(block, &mut hash);
-    let p = places::place_of(store, &hash);
-    if p < PLACES {
-        return count_one(store, p, user as usize);
+    // No block of this length is refused.
+    let _ = sha256::sha256(block, &mut hash);
+    match places::place_of(store, &hash) {
+        Some(p) => count_one(store, p, user as usize),
+        None => fill_free(store, user as usize, block),
     }
-    fill_free(store, user as usize, block)
 }
 
 // Copies the block of a hash to the front of `out`, and keeps the bytes after it. Gives its length.
@@ -122,12 +120,10 @@ pub fn retrieve(store: &[u8], hash: &[u8], out: &mut [u8]) -> Result<usize, Refu
     ensures leaves { out.new ≡ left (retrieve_into store.now hash.now out.old) out.old }
 {
     admit(store, 0, hash.len() == HASH)?;
-    let p = places::place_of(store, hash);
-    if p == PLACES {
+    let Some(p) = places::place_of(store, hash) else {
         return Err(Refusal::NotHeld);
-    }
-    let at = PLACE * p;
-    let block = place::block(&store[at..at + PLACE]);
+    };
+    let block = place::block(place::at(store, p));
     if out.len() < block.len() {
         return Err(Refusal::NoRoom);
     }
@@ -155,9 +151,8 @@ pub fn unreference(store: &mut [u8], user: u8, hash: &[u8]) -> Result<usize, Ref
     ensures leaves { store.new ≡ left (after_unreference store.old user hash.now) store.old }
 {
     admit(store, user, hash.len() == HASH)?;
-    let p = places::place_of(store, hash);
-    if p == PLACES {
+    let Some(p) = places::place_of(store, hash) else {
         return Err(Refusal::NotHeld);
-    }
+    };
     Ok(uncount_one(store, p, user as usize))
 }

@@ -2,7 +2,7 @@
 // written there.
 ghost use Rattle.std.specs.Prelude.{◌≡◌, ◌+◌, ◌≤◌, ◌<◌, length};
 ghost use Rattle.layout.specs.Bytes.{put_at};
-ghost use Rattle.store.specs.Place.{place_size, store_size, place, block_length, count, block_in, free, holds as holds_of, recount};
+ghost use Rattle.store.specs.Place.{store_size, place, count, block_in, free, holds as holds_of, recount};
 
 use crate::PLACE;
 
@@ -15,13 +15,21 @@ const WIDTH: usize = 2;
 
 pub(crate) const BYTES: usize = 34;
 
-// The block, where it lies.
+// The bytes of place p, where they lie.
+pub(crate) fn at(store: &[u8], p: usize) -> &[u8]
+    requires { (length store.now ≡ store_size) × (p < 64) }
+    ensures { result.now ≡ place store.now p }
+{
+    &store[PLACE * p..PLACE * p + PLACE]
+}
+
+// The block, where it lies, as far as there are bytes.
 pub(crate) fn block(x: &[u8]) -> &[u8]
-    requires { (length x.now ≡ place_size) × (block_length x.now ≤ 8192) }
-    ensures { result.now ≡ block_in x.now }
+    ensures lies { result.now ≡ block_in x.now }
+    ensures short { length result.now < 65536 }
 {
     let n = layout::u16_at(x, LENGTH) as usize;
-    &x[BYTES..BYTES + n]
+    &x[BYTES.min(x.len())..(BYTES + n).min(x.len())]
 }
 
 // Whether nobody counts the block.
@@ -33,13 +41,9 @@ pub(crate) fn is_free(x: &[u8]) -> bool
 
 // Whether somebody counts the block, and it has this hash. A free place is not hashed.
 pub(crate) fn holds(x: &[u8], hash: &[u8]) -> bool
-    requires { (length x.now ≡ place_size) × (block_length x.now ≤ 8192) }
     ensures { result ≡ holds_of x.now hash.now }
 {
-    if is_free(x) {
-        return false;
-    }
-    sha256::is_hash(block(x), hash)
+    !is_free(x) && sha256::is_hash(block(x), hash)
 }
 
 // Writes bytes over those from a place on.
