@@ -18,4 +18,4 @@ returns c =
     let w = free_at s (sym c.first_free.ensures ∙ c.in-Some.is) in
     free_filled s a.user a.block.now _ w.0 _ w.1
     (block_there s c.requires.0 _ w.1 a.user c.requires.1 a.block.now c.requires.2 _ _ _ _
-    c.u16_bytes.ensures c.put.ensures c.recount_at.ensures c.put-2.ensures)
+    c.u16_bytes.ensures c.put.ensures c.write.ensures c.put-2.ensures)

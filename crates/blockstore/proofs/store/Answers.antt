@@ -19,10 +19,13 @@ returns-in_err-admit c =
 pub place_of-requires : goal.place_of-requires
 place_of-requires c = (admitted _ _ _ c.admit.result c.admit.ensures c.in_ok-admit.was).long
 
-pub count_one-requires : goal.count_one-requires
-count_one-requires c =
+pub invariant_of-count_one : goal.invariant_of-count_one
+invariant_of-count_one c =
     let w = admitted _ _ _ c.admit.result c.admit.ensures c.in_ok-admit.was in
-    (w.long, (held_at _ _ (sym c.place_of.ensures ∙ c.in-Some.is)).1, omega (arith, w.user))
+    record { there = ((held_at _ _ (sym c.place_of.ensures ∙ c.in-Some.is)).1, omega (arith, w.user)) }
+
+pub count_one-requires : goal.count_one-requires
+count_one-requires c = (admitted _ _ _ c.admit.result c.admit.ensures c.in_ok-admit.was).long
 
 pub fill_free-requires : goal.fill_free-requires
 fill_free-requires c =

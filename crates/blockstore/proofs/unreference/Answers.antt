@@ -29,10 +29,13 @@ returns-in_default c =
     (sym c.place_of.ensures ∙ c.in_default.is)) in
     record { answers = d.0; leaves = d.1 }
 
-pub uncount_one-requires : goal.uncount_one-requires
-uncount_one-requires c =
+pub invariant_of-uncount_one : goal.invariant_of-uncount_one
+invariant_of-uncount_one c =
     let w = admitted _ _ _ c.admit.result c.admit.ensures c.in_ok-admit.was in
-    (w.long, (held_at _ _ (sym c.place_of.ensures ∙ c.in-Some.is)).1, omega (arith, w.user))
+    record { there = ((held_at _ _ (sym c.place_of.ensures ∙ c.in-Some.is)).1, omega (arith, w.user)) }
+
+pub uncount_one-requires : goal.uncount_one-requires
+uncount_one-requires c = (admitted _ _ _ c.admit.result c.admit.ensures c.in_ok-admit.was).long
 
 pub returns : goal.returns
 returns c =
