@@ -8,7 +8,7 @@ use native.Mathlib.Omega.{arith}
 use lib.Dec.{leb, eqb}
 use lib.ListN.{length, get_or, take, drop, set, replicate, length-set, length-append, length-take, length-drop, drop_of_length-le}
 use lib.Seq.{take_at, take-length}
-use borrow.Author.Tests.{eq-eqb, ne_eqb, le-leb, lt-leb, leb-true, eqb-true}
+use borrow.Author.Tests.{eq-eqb, le-leb, leb-true, eqb-true}
 use borrow.Rule.Slice.PartMut.{put_mid}
 use Rattle.search.proofs.Bool.{both_true}
 use Rattle.layout.specs.Bytes.{bytes8, part}
@@ -82,17 +82,9 @@ module _ (κ : ℕ) (nums values : List ℕ) (few : length nums ≤ 16) (handled
       let a : min 16 (length nums - 0) ≡ length nums = omega arith in
       let b : length o - (2 + 40 * length nums) ≡ 640 - 40 * length nums = omega arith in ep ∙ rw (a, b, e)
 
--- The lengths, tested one after the other.
+-- The lengths of a block.
 module _ (numbers values bytes : ℕ) where
-  pub too_many : 16 < numbers → false ≡ fits numbers values bytes
-  unfolding fits
-  too_many h = rw (lt-leb numbers 16 h)
-
   module _ (few : numbers ≤ 16) where
-    pub other_values : (values ≡ 32 * numbers → ⊥) → false ≡ fits numbers values bytes
-    unfolding fits
-    other_values h = rw (le-leb numbers 16 few, ne_eqb values (32 * numbers) h)
-
     pub last_length : values ≡ 32 * numbers → eqb bytes size ≡ fits numbers values bytes
     unfolding fits
     last_length h = rw (le-leb numbers 16 few, eq-eqb values (32 * numbers) h)

@@ -1,15 +1,13 @@
--- The tests of one block, each by cases: what it says where the tests before it have failed or passed. The kind, the number of used slots and the
--- numbers are as they were read.
-use Prim.Native.Nat.{ℕ, suc, ◌+◌, ◌-◌, ◌*◌, ◌≤◌, ◌<◌}
+-- What the tests of a block say, by cases: the number of used slots and the numbers are as they were read.
+use Prim.Native.Nat.{ℕ, ◌+◌, ◌-◌, ◌*◌, ◌≤◌, ◌<◌}
 use mathlib.Core.Bool.{true, false}
 use mathlib.Core.List.{List}
 use mathlib.Core.Path.{◌≡◌, sym, ap, ◌∙◌}
 use native.Mathlib.Numerals.{add-one}
 use native.Mathlib.Omega.{arith}
 use lib.Dec.{ltb}
-use borrow.Author.Tests.{eq-eqb, ne_eqb, le-leb, lt-leb, le-ltb, lt-ltb}
+use borrow.Author.Tests.{eq-eqb, ne_eqb, le-ltb, lt-ltb}
 use Rattle.layout.specs.Strings.{zeros}
-use Rattle.itable.specs.Lookup.{last_at_most}
 use Rattle.itable.proofs.BlockBound.{next_bounds, last_hands_down, last_tells}
 use Rattle.search.proofs.Search.{every_intro}
 use Rattle.itable.specs.Block.{used, number, ascending, unused_zero, below_bound, child_bound}
@@ -49,17 +47,3 @@ module _ (bound : ℕ) (b : List ℕ) where
     pub last_bounded : (u ≡ 0 → ⊥) → ascending b ≡ true → (x : ℕ) → x ≡ number b (u - 1) → ltb x bound ≡ below_bound bound b
     unfolding below_bound
     last_bounded some asc x e = rw (ne_eqb bound 0 n, e, eu) (last_tells bound b asc (omega arith))
-
--- The last of the first n numbers that is at most i, by the last of them.
-module _ (f : ℕ → ℕ) (i n : ℕ) (h : 0 < n) where
-  pub last_here : f (n - 1) ≤ i → last_at_most f i n ≡ n
-  unfolding last_at_most
-  last_here l =
-      let e : n ≡ suc (n - 1) = omega arith in
-      let g : last_at_most f i (suc (n - 1)) ≡ suc (n - 1) = rw (le-leb (f (n - 1)) i l) in ap (last_at_most f i) e ∙ (g ∙ sym e)
-
-  pub last_before : i < f (n - 1) → last_at_most f i n ≡ last_at_most f i (n - 1)
-  unfolding last_at_most
-  last_before l =
-      let e : n ≡ suc (n - 1) = omega arith in
-      let g : last_at_most f i (suc (n - 1)) ≡ last_at_most f i (n - 1) = rw (lt-leb (f (n - 1)) i l) in ap (last_at_most f i) e ∙ g
