@@ -2,7 +2,6 @@ pub mod Apart
 pub mod Finish
 pub mod ThirdStage
 pub mod Lengths
-pub mod Lent
 pub mod Placed
 pub mod Tally
 pub mod Told

@@ -1,6 +1,6 @@
 // The second stage: refusals 3 and 4, which look at each record and each mark by itself. That what is held is remembered
 // was seen with the file.
-ghost use Rattle.std.specs.Prelude.{◌≡◌, true, not, List, ℕ, ◌<◌, eqb, length, get_or};
+ghost use Rattle.std.specs.Prelude.{◌≡◌, true, not, List, ℕ, ◌<◌, eqb, length, position};
 ghost use Rattle.search.specs.Search.{first};
 ghost use Rattle.refusal.specs.Order.{tried};
 ghost use Rattle.refusal.specs.Refusal.{said};
@@ -33,14 +33,9 @@ fn first_misplaced(users: u8, list: &Records<'_>) -> Option<usize>
 
 // The first record whose mark is not 1.
 fn first_unmarked(marks: &[u8]) -> Option<usize>
-    ensures { result ≡ first (λ i. not (eqb (get_or marks.now i 0) 1)) 0 (length marks.now) }
+    ensures { result ≡ position (λ mark. not (eqb mark 1)) marks.now }
 {
-    for i in 0..marks.len() {
-        if marks[i] != 1 {
-            return Some(i);
-        }
-    }
-    None
+    marks.iter().position(|mark| *mark != 1)
 }
 
 pub(crate) fn forms(users: u8, list: &Records<'_>, marks: &[u8]) -> Result<(), Refusal>

@@ -10,7 +10,7 @@ use crate::records::Records;
 // that an owner's first record is the one that stays.
 pub(crate) fn counts(user: u8, held: &[u8], list: &Records<'_>) -> [u32; 16]
     requires user_bound { user < 16 }
-    requires user_bound_2 { count held.now user < last_count }
+    requires below_last { count held.now user < last_count }
     requires by_index { (i : ℕ) → i < records_of list.now → owner (record_at list.now i) < 16 }
     ensures { result ≡ next_counts user held.now list.now }
 {

@@ -44,7 +44,8 @@ fn is_before(user: u8, own: u32, pending: bool, list: &Records<'_>) -> bool
     pending && listed_count(user, list) as u64 + 1 == own as u64
 }
 
-// The list as an array of structures, put into a lent one: an array that is handed out is copied, and the stack is small.
+// The list as an array of structures.
+// Kept: put into a lent array and not returned, since an array that is handed out is copied, and the stack is small.
 fn read_list(list: &Records<'_>, structures: &mut [Version; 16])
     requires { length structures.old ≡ 16 }
     ensures { (i : ℕ) → i < records_of list.now → get_or structures.new i none ≡ fields (record_at list.now i) }

@@ -14,8 +14,7 @@ fn main(rt: HostRuntime) {
     let n = stream::read(&mut rt.stdin(), &mut input);
     // No output is longer, so none is refused.
     let mut output = [0u8; MOST];
-    let printed = report::print(&input[..n], &mut output);
-    if let Ok(k) = printed {
+    if let Ok(k) = report::print(&input[..n], &mut output) {
         stream::write(&mut rt.stdout(), &output[..k]);
     }
 }

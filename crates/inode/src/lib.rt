@@ -102,7 +102,8 @@ fn file_length(inode: &[u8]) -> u32
     layout::u32_at(inode, LENGTH)
 }
 
-// Whether an inode is of the form's kind, its file of its blocks at most, and its own hashes fit it.
+// Whether an inode has the form's kind, its file no more blocks than the form's, and zeros behind
+// its own hashes.
 fn hashes_fit(inode: &[u8], form: Form) -> bool
     ensures { result ≡ hashes_fit inode.now form.kind form.most }
 {

@@ -4,7 +4,7 @@ use Prim.Native.Nat.{ℕ, suc, ◌+◌, ◌-◌, ◌*◌, ◌≤◌, ◌<◌}
 use mathlib.Core.Bool.{true, false}
 use mathlib.Core.List.{List, [], ◌∷◌}
 use mathlib.Core.Logic.{⊎_elim}
-use mathlib.Core.Path.{◌≡◌, refl, sym, ap, subst, ◌∙◌}
+use mathlib.Core.Path.{◌≡◌, sym, ap, subst, ◌∙◌}
 use native.Mathlib.Omega.{arith}
 use lib.Dec.{eqb}
 use lib.ListN.{length, get_or, set, replicate, length-drop, get_or-replicate}
@@ -14,51 +14,45 @@ use Rattle.search.proofs.Bool.{bool_cases}
 use Rattle.layout.specs.Bytes.{part}
 use Rattle.layout.specs.Strings.{same}
 use Rattle.layout.proofs.Parts.{part_part}
-use Rattle.refusal.specs.Answer.{Answer, refused}
+use Rattle.std.specs.Prelude.{Option, None, Some, Result, Ok, Err}
+use Rattle.std.specs.Result.{IsErrAnd}
+use Rattle.refusal.specs.Answer.{Answer, accepted, refused}
 use Rattle.refusal.specs.Order.{unless, in_order}
 use Rattle.refusal.specs.Refusal.{checked}
-use Rattle.refusal.specs.declared.Check.{Check}
-use Rattle.refusal.specs.declared.Check.TheVariants.{Passed, Refused}
+use Rattle.refusal.specs.declared.Refusal.{Refusal}
+use Rattle.refusal.proofs.Match.{returned}
 use Rattle.sha256.specs.Sha256.{sha256}
 use Rattle.itable.specs.Block.{size, to_child, well_formed}
 use Rattle.itable.specs.declared.Link.{Link}
 use Rattle.itable.specs.Lookup.{Entry, answer_at, consult}
 use Rattle.itable.specs.Internal.Many.{entry_at}
 use Rattle.itable.proofs.Consult.{consult_none, consult_next}
-use Rattle.many.specs.Internal.Known.{none, Knows, AllKnown}
+use Rattle.many.specs.Internal.Known.{Knows, AllKnown}
 use Rattle.many.specs.Internal.Walk.{path_from, following, Consulted}
 use Rattle.many.specs.declared.Known.{Known}
-use Rattle.many.specs.declared.walk.Step.{Step}
-use Rattle.many.specs.declared.walk.Step.TheVariants.{Ends, Leads}
 
 -- The path of a question whose blocks are all there.
 pub from_long : (paths : List ℕ) (first n : ℕ) → size * (first + n) ≤ length paths → length (path_from paths first n) ≡ size * n
 from_long paths first n h = length-take-le _ _ (simp length-drop (omega arith))
 
 -- Nothing is known before the first question.
-pub none_known : (paths hash : List ℕ) → AllKnown paths (replicate 3 (record { at = length paths; hash = hash }))
-none_known paths hash d h l =
-    let e = get_or-replicate 3 d (record { at = length paths; hash = hash }) none h in
-    let m : size * length paths + size ≤ length paths = rw e at l in absurd (omega arith)
+pub none_known : (paths : List ℕ) → AllKnown paths (replicate 3 None)
+none_known paths d h = rw (get_or-replicate {A = Option Known} 3 d None None h) tt
 
 -- One more block is known.
 pub known_more :
-    (paths : List ℕ) (known : List Known) (d : ℕ) (x : Known) → d < length known → AllKnown paths known → Knows paths x →
+    (paths : List ℕ) (known : List (Option Known)) (d : ℕ) (x : Option Known) → d < length known → AllKnown paths known → Knows paths x →
     AllKnown paths (set known d x)
 known_more paths known d x l f e m h =
     ⊎_elim
-    (λ q. subst (λ k. Knows paths (get_or (set known d x) k none)) (sym (eqb-true m d q)) (rw (get_or-set_same known d x none l) e))
-    (λ q. rw (get_or-set_other known d m x none (eqb-false m d q)) (f m h)) (bool_cases (eqb m d))
-
--- An answer depends on the entry only where it is accepted.
-checked_at : {e f : Entry} (c : Check) → (c ≡ Passed → e ≡ f) → checked e c ≡ checked f c
-checked_at Passed h = rw (h refl)
-checked_at (Refused r) h = refl
+    (λ q. subst (λ k. Knows paths (get_or (set known d x) k None)) (sym (eqb-true m d q)) (rw (get_or-set_same known d x None l) e))
+    (λ q. rw (get_or-set_other known d m x None (eqb-false m d q)) (f m h)) (bool_cases (eqb m d))
 
 module _ (paths : List ℕ) (first n i d : ℕ) (k : Link) {a : Answer Entry} (g : consult (path_from paths first n) i (n - d) d k ≡ a) where
   -- No block is left.
-  pub none_more : n ≤ d → refused 9 d 0 ≡ a
-  none_more h = sym (consult_none (path_from paths first n) i n d k h) ∙ g
+  pub none_more : n ≤ d → d ≤ n → refused 9 n 0 ≡ a
+  none_more h l =
+      let e : n ≡ d = omega arith in ap (λ m. refused 9 m 0) e ∙ (sym (consult_none (path_from paths first n) i n d k h) ∙ g)
 
   -- Block d of the path.
   module _ (h : d < n) where
@@ -78,19 +72,23 @@ module _ (paths : List ℕ) (first n i d : ℕ) (k : Link) {a : Answer Entry} (g
     unfolding in_order
     wrong_hash e = rw (next, e)
 
-    module _ (e : same (sha256 block) k.hash ≡ true) {s : Step} (c : Consulted block k i (n - d - 1) d s) where
-      follows : {t : Step} → s ≡ t → following t (entry_at block i) on ≡ a
+    module _ (e : same (sha256 block) k.hash ≡ true) {s : Result (Option ℕ) Refusal} (c : Consulted block k i (n - d - 1) d s) where
+      follows : {t : Result (Option ℕ) Refusal} → s ≡ t → following t (entry_at block i) on ≡ a
       unfolding in_order
       follows q = sym (next ∙ rw e (c.says on ∙ ap (λ x. following x (entry_at block i) on) q))
 
-      pub ends_here : {r : Check} → s ≡ Ends r → checked (entry_at (part size paths (first + n - 1)) i) r ≡ a
-      ends_here {r} q =
-          checked_at r
-          (λ p.
-          let l : n - d - 1 ≡ 0 = c.last (q ∙ ap Ends p) in
-          let z : first + n - 1 ≡ first + d = omega arith in rw z) ∙
-          follows q
+      pub refuses : {r : Refusal} → s ≡ Err r → (x : Result Unit Refusal) → IsErrAnd x (λ e. e ≡ r) → (f : Entry) → checked f x ≡ a
+      refuses q x w f = rw (returned w) (follows q)
 
-      pub leads_on : {j : ℕ} {m : Link} → s ≡ Leads j → m ≡ to_child k block j → consult (path_from paths first n) i (n - (d + 1)) (d + 1) m ≡ a
-      leads_on q f =
-          let x : n - (d + 1) ≡ n - d - 1 = omega arith in let y : d + 1 ≡ suc d = omega arith in rw (f, x, y) (follows q)
+      pub ends_here : {o : Option ℕ} → s ≡ Ok o → o ≡ None → accepted (entry_at (part size paths (first + n - 1)) i) ≡ a
+      ends_here q z =
+          let w : s ≡ Ok None = q ∙ ap Ok z in
+          let l : n - d - 1 ≡ 0 = c.last w in
+          let y : first + n - 1 ≡ first + d = omega arith in rw y (follows w)
+
+      pub leads_on :
+          {o : Option ℕ} {j : ℕ} {m : Link} → s ≡ Ok o → o ≡ Some j → m ≡ to_child k block j →
+          consult (path_from paths first n) i (n - (d + 1)) (d + 1) m ≡ a
+      leads_on {j = j} q z f =
+          let w : s ≡ Ok (Some j) = q ∙ ap Ok z in
+          let x : n - (d + 1) ≡ n - d - 1 = omega arith in let y : d + 1 ≡ suc d = omega arith in rw (f, x, y) (follows w)

@@ -7,7 +7,7 @@ use lib.ListN.{length, get_or, take}
 use Rattle.layout.specs.Bytes.{part}
 use Rattle.refusal.specs.Answer.{Answer, accepted}
 use Rattle.refusal.specs.Refusal.{refusal, checked}
-use Rattle.refusal.specs.declared.Check.{Check}
+use Rattle.std.specs.Prelude.{Option, Result, Ok, Err}
 use Rattle.refusal.specs.declared.Refusal.{Refusal}
 use Rattle.refusal.proofs.Numbered.{numbered}
 use Rattle.itable.specs.Block.{size}
@@ -18,8 +18,7 @@ use Rattle.itable.proofs.LookupMeans.{lookup_means}
 use Rattle.itable.proofs.Many.{total_front, path_at_long, all_accepted, first_refused}
 use Rattle.many.specs.Internal.Judged.{entry_to, Judged}
 use Rattle.many.specs.Internal.Walk.{path_from, Says}
-use Rattle.many.specs.declared.Outcome.TheVariants.{Answered, Refused}
-use Rattle.many.specs.declared.walk.Asked.{Asked}
+use Rattle.many.specs.declared.Known.{Known}
 
 -- The path of question q lies within the bytes.
 pub within :
@@ -30,10 +29,10 @@ within counts paths q first n filled f m = omega (arith, total_front counts q)
 module _ (handle numbers counts paths : List ℕ) where
   -- The question q is asked with its own number and path.
   pub asked :
-      (q first n i : ℕ) {r : Asked} {c : Check} → first ≡ total (take q counts) → n ≡ get_or counts q 0 → i ≡ get_or numbers q 0 →
-      Says (lookup handle i (path_from paths first n)) (entry_at (part size paths (first + n - 1)) i) paths r → r.answer ≡ c →
+      (q first n i : ℕ) {known : List (Option Known)} {r c : Result Unit Refusal} → first ≡ total (take q counts) → n ≡ get_or counts q 0 → i ≡ get_or numbers q 0 →
+      Says (lookup handle i (path_from paths first n)) (entry_at (part size paths (first + n - 1)) i) paths r known → r ≡ c →
       checked (entry_to numbers counts paths q) c ≡ single handle numbers counts paths q
-  asked q first n i {r} {c} f m e g a = rw (← f, ← m, ← e, ← a) g.answers
+  asked q first n i f m e g a = rw (← f, ← m, ← e, ← a) g.answers
 
   -- A path that is accepted has a block.
   pub some_block :
@@ -46,7 +45,7 @@ module _ (handle numbers counts paths : List ℕ) where
   AcceptedBefore q =
       (j : ℕ) → j < q → (single handle numbers counts paths j ≡ accepted (entry_to numbers counts paths j)) × (1 ≤ get_or counts j 0)
 
-  pub all_asked : (q : ℕ) → length numbers ≤ q → AcceptedBefore q → Judged handle numbers counts paths Answered
+  pub all_asked : (q : ℕ) → length numbers ≤ q → AcceptedBefore q → Judged handle numbers counts paths (Ok tt)
   all_asked q l h =
       record {
         answers =
@@ -58,7 +57,7 @@ module _ (handle numbers counts paths : List ℕ) where
 
   pub refused_at :
       (q : ℕ) {r : Refusal} → q < length numbers → AcceptedBefore q → single handle numbers counts paths q ≡ refusal r →
-      Judged handle numbers counts paths (Refused q r)
+      Judged handle numbers counts paths (Err (record { question = q; refusal = r }))
   refused_at q {r} l h e =
       let w = numbered r in
       record {
@@ -67,5 +66,5 @@ module _ (handle numbers counts paths : List ℕ) where
             sym
             (first_refused (single handle numbers counts paths) (length numbers) q (λ j b. (entry_to numbers counts paths j, (h j b).0)) l
             (e ∙ w.3 Entry));
-        counted = λ z. let f : ◌≡◌ {A = ℕ} 0 1 = cc in absurd (omega arith);
+        counted = λ z. cc;
       }

@@ -1,5 +1,5 @@
 -- A block that is byte for byte a known one has the known hash.
-use Prim.Native.Nat.{ℕ, ◌+◌, ◌*◌, ◌≤◌, ◌<◌}
+use Prim.Native.Nat.{ℕ, ◌+◌, ◌*◌, ◌≤◌}
 use mathlib.Core.Bool.{true}
 use mathlib.Core.List.{List}
 use mathlib.Core.Path.{◌≡◌}
@@ -13,6 +13,7 @@ use Rattle.sha256.specs.Sha256.{sha256}
 use Rattle.sha256.specs.Hash.{is_hash}
 use Rattle.sha256.proofs.Laws.{is_hash_means}
 use Rattle.itable.specs.Block.{size}
+use Rattle.std.specs.Prelude.{Some}
 use Rattle.many.specs.Internal.Known.{Knows}
 use Rattle.many.specs.declared.Known.{Known}
 
@@ -22,7 +23,6 @@ module _ (paths : List ℕ) (i : ℕ) (h : size * i + size ≤ length paths) whe
   block_hash hash = is_hash_means (part size paths i) hash (omega (arith, length_of_part size paths i h))
 
   pub known_hash :
-      (k : Known) → Knows paths k → k.at < i → same (part size paths k.at) (part size paths i) ≡ true → (hash : List ℕ) →
+      (k : Known) → Knows paths (Some k) → same (part size paths k.at) (part size paths i) ≡ true → (hash : List ℕ) →
       same k.hash hash ≡ is_hash (part size paths i) hash
-  known_hash k f l e hash =
-      rw (block_hash hash, ← same_true (part size paths k.at) (part size paths i) e, f (omega arith))
+  known_hash k f e hash = rw (block_hash hash, ← same_true (part size paths k.at) (part size paths i) e, f.1)

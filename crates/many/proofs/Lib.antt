@@ -1,5 +1,4 @@
 pub mod Filled
-pub mod Lengths
 pub mod Hashes
 pub mod Steps
 pub mod Along

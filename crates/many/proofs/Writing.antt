@@ -1,5 +1,5 @@
 -- An entry as it is written, and the entries one after the other.
-use Prim.Native.Nat.{ℕ, ◌+◌, ◌-◌, ◌*◌, ◌≤◌, ◌<◌}
+use Prim.Native.Nat.{ℕ, ◌+◌, ◌-◌, ◌*◌, ◌<◌}
 use mathlib.Core.List.{List, ◌∷◌, ◌++◌, append-nil}
 use mathlib.Core.Path.{◌≡◌, sym, ap, ◌∙◌}
 use native.Mathlib.Omega.{arith}
@@ -8,7 +8,9 @@ use lib.ListN.{length, get_or, take, drop, replicate, length-drop, length-replic
 use lib.Seq.{take_all, length-take-le}
 use borrow.Author.Tests.{eq-eqb, ne_eqb}
 use borrow.Rule.Slice.PartMut.{put_mid}
-use Rattle.search.specs.Search.{find}
+use Rattle.search.specs.Search.{first}
+use Rattle.search.proofs.Place.{was_first, was_none}
+use Rattle.std.specs.Prelude.{Option, None, Some}
 use Rattle.layout.proofs.Copied.{copied_over}
 use Rattle.layout.proofs.Values.{length_values}
 use Rattle.itable.specs.Block.{size, kind, used, number, value}
@@ -25,19 +27,21 @@ module _ (b : List ℕ) (i : ℕ) where
   unfolding entry_at
   no_leaf h = rw (ne_eqb (kind b) 3 h)
 
-  module _ (k : kind b ≡ 3) (j u : ℕ) (ej : j ≡ find (λ m. eqb (number b m) i) 0 (used b)) (eu : u ≡ used b) where
-    pub no_slot : u ≤ j → replicate entry_size 0 ≡ entry_bytes (entry_at b i)
+  module _ (k : kind b ≡ 3) (o : Option ℕ) (eo : o ≡ first (λ m. eqb (number b m) i) 0 (used b)) where
+    pub no_slot : o ≡ None → replicate entry_size 0 ≡ entry_bytes (entry_at b i)
     unfolding entry_at
-    no_slot l = rw (eq-eqb (kind b) 3 k, entry_past (number b) (value b) (used b) i j ej (omega arith))
+    no_slot z =
+        let w = was_none _ 0 _ (sym eo ∙ z) in rw (eq-eqb (kind b) 3 k, entry_past (number b) (value b) (used b) i _ (sym w) (omega arith))
 
     pub in_slot :
-        (v after : List ℕ) → j < u → v ≡ value b j → after ≡ take (length v) v ++ drop (length v) (replicate 32 0) →
+        {j : ℕ} (v after : List ℕ) → o ≡ Some j → v ≡ value b j → after ≡ take (length v) v ++ drop (length v) (replicate 32 0) →
         put_mid 1 32 (1 ∷ replicate 32 0) after ≡ entry_bytes (entry_at b i)
     unfolding entry_at
-    in_slot v after l e f =
+    in_slot {j} v after s e f =
+        let w = was_first _ 0 _ (sym eo ∙ s) in
         let n : length v ≡ 32 = ap length e ∙ length_values _ 0 32 in
         let g : after ≡ value b j = f ∙ (copied_over v (replicate 32 0) (omega (arith, length-replicate {A = ℕ} 32 0)) ∙ e) in
-        rw (g, append-nil, eq-eqb (kind b) 3 k, entry_first (number b) (value b) (used b) i j ej (omega arith))
+        rw (g, append-nil, eq-eqb (kind b) 3 k, entry_first (number b) (value b) (used b) i j (sym w.0) (omega (arith, w.1)))
 
 -- The entries of the first q questions, which have `first` blocks: one more, and all.
 module _ (numbers counts paths : List ℕ) where

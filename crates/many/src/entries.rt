@@ -5,7 +5,7 @@ ghost use Rattle.itable.specs.Many.{total, entry_size, entry_bytes};
 ghost use Rattle.itable.specs.Internal.Many.{entries_from, entry_at};
 ghost use Rattle.many.specs.Internal.Judged.{entry_to};
 
-use crate::{ENTRY, wide};
+use crate::ENTRY;
 
 // What the block says of the i-number, as 33 bytes.
 fn entry(b: &[u8], number: u64) -> [u8; ENTRY]
@@ -15,10 +15,9 @@ fn entry(b: &[u8], number: u64) -> [u8; ENTRY]
     if block::kind(b) != block::LEAF {
         return out;
     }
-    let j = block::slot_of(b, number);
-    if block::used(b) <= j {
+    let Some(j) = block::slot_of(b, number) else {
         return out;
-    }
+    };
     let handle = block::value(b, j);
     out[0] = 1;
     layout::copy(&handle, &mut out[1..ENTRY]);
@@ -34,13 +33,11 @@ pub(crate) fn write(numbers: &[u64], counts: &[u8], paths: &[u8], out: &mut [u8]
         entries_from (entry_to numbers.now counts.now paths.now) 0 (length numbers.now) }
 {
     let mut behind = 0;
-    let mut q = 0;
-    while q < numbers.len() {
-        behind += wide(counts[q]);
+    for (q, number) in numbers.iter().enumerate() {
+        behind += usize::from(counts[q]);
         let at = block::SIZE * (behind - 1);
-        let e = entry(&paths[at..at + block::SIZE], numbers[q]);
+        let e = entry(&paths[at..at + block::SIZE], *number);
         let to = ENTRY * q;
         layout::copy(&e, &mut out[to..to + ENTRY]);
-        q += 1;
     }
 }

@@ -33,19 +33,11 @@ pub struct AtQuestion {
     pub refusal: Refusal,
 }
 
-// What is known of a block: its index in the paths, and its hash. An index that no block has says
-// nothing.
+// What is known of a block: its index in the paths, and its hash.
 #[derive(Clone, Copy)]
 struct Known {
     at: usize,
     hash: [u8; 32],
-}
-
-// A number of blocks, as a length: a byte of a slice that is cast in place asks for its bound.
-fn wide(n: u8) -> usize
-    ensures { result ≡ n }
-{
-    n as usize
 }
 
 // Whether this many bytes are the blocks of these counts. What is left is counted down, so that no
@@ -54,14 +46,12 @@ fn fills(counts: &[u8], bytes: usize) -> bool
     ensures { result ≡ eqb (size * total counts.now) bytes }
 {
     let mut rest = bytes;
-    let mut q = 0;
-    while q < counts.len() {
-        let n = block::SIZE * wide(counts[q]);
+    for count in counts {
+        let n = block::SIZE * usize::from(*count);
         if rest < n {
             return false;
         }
         rest -= n;
-        q += 1;
     }
     rest == 0
 }
@@ -70,46 +60,33 @@ fn fills(counts: &[u8], bytes: usize) -> bool
 fn sized(handle: &[u8], numbers: &[u64], counts: &[u8], paths: &[u8], room: usize) -> bool
     ensures { (result ≡ true) ↔ ManySizes handle.now numbers.now counts.now paths.now room }
 {
-    if handle.len() != 32 {
-        return false;
-    }
-    if numbers.len() != counts.len() {
-        return false;
-    }
-    if QUESTIONS < numbers.len() {
-        return false;
-    }
-    if room != ENTRY * numbers.len() {
-        return false;
-    }
-    fills(counts, paths.len())
+    handle.len() == 32
+        && numbers.len() == counts.len()
+        && numbers.len() <= QUESTIONS
+        && room == ENTRY * numbers.len()
+        && fills(counts, paths.len())
 }
 
 // Looks up each question in its turn, up to the first that is refused.
-fn judge(handle: &[u8], numbers: &[u64], counts: &[u8], paths: &[u8]) -> Outcome
+fn judge(handle: &[u8], numbers: &[u64], counts: &[u8], paths: &[u8]) -> Result<(), AtQuestion>
     requires { (length handle.now ≡ 32) × (length numbers.now ≡ length counts.now) ×
         (size * total counts.now ≡ length paths.now) }
     ensures { Judged handle.now numbers.now counts.now paths.now result }
 {
-    // No block has this index: nothing is known yet.
-    let mut known = [Known {
-        at: paths.len(),
-        hash: [0u8; 32],
-    }; 3];
+    // Nothing is known yet.
+    let mut known = [None; 3];
     let mut first = 0;
-    let mut q = 0;
-    while q < numbers.len() {
-        let n = wide(counts[q]);
-        let asked = walk::ask(handle, numbers[q], paths, first, n, known);
-        let answer = asked.answer;
-        if let Err(r) = answer {
-            return Outcome::Refused(q, r);
+    for (q, number) in numbers.iter().enumerate() {
+        let n = usize::from(counts[q]);
+        if let Err(refusal) = walk::ask(handle, *number, paths, first, n, &mut known) {
+            return Err(AtQuestion {
+                question: q,
+                refusal,
+            });
         }
-        known = asked.known;
         first += n;
-        q += 1;
     }
-    Outcome::Answered
+    Ok(())
 }
 
 // Looks up the i-numbers in one call. `counts` has the number of blocks of each path, `paths` the
@@ -121,7 +98,7 @@ pub fn lookup(
     counts: &[u8],
     paths: &[u8],
     out: &mut [u8],
-) -> Outcome
+) -> Result<(), AtQuestion>
     ensures answers { answer_of out.new result ≡
         many handle.now numbers.now counts.now paths.now (length out.old) }
     ensures leaves { out.new ≡ left
@@ -129,12 +106,12 @@ pub fn lookup(
         out.old }
 {
     if !sized(handle, numbers, counts, paths, out.len()) {
-        return Outcome::Refused(0, Refusal::Length(0));
+        return Err(AtQuestion {
+            question: 0,
+            refusal: Refusal::Length(0),
+        });
     }
-    let outcome = judge(handle, numbers, counts, paths);
-    let Outcome::Answered = outcome else {
-        return outcome;
-    };
+    judge(handle, numbers, counts, paths)?;
     entries::write(numbers, counts, paths, out);
-    outcome
+    Ok(())
 }

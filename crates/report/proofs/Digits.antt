@@ -1,11 +1,14 @@
 -- The fewest digits that hold a number are one number of digits, so the digits that are as few and hold it are those of `decimal`.
-use Prim.Native.Nat.{ℕ, zero, suc, ◌-◌, ◌^◌, ◌≤◌, ◌<◌}
-use mathlib.Core.Path.{◌≡◌}
+use Prim.Native.Nat.{ℕ, zero, suc, ◌+◌, ◌-◌, ◌/◌, ◌%◌, ◌^◌, ◌≤◌, ◌<◌}
+use mathlib.Core.List.{List, [], ◌∷◌, ◌++◌}
+use mathlib.Core.Path.{◌≡◌, refl, ◌∙◌}
 use native.Mathlib.Decide.{dec_lt}
 use native.Mathlib.Nat.{pow-suc, pow-le-pow_right}
 use native.Mathlib.Omega.{arith}
 use lib.Dec.{ltb}
 use borrow.Author.Tests.{lt-ltb, le-ltb}
+use Rattle.std.specs.Fmt as Fmt
+use Rattle.std.proofs.lemmas.Fmt.{decimal_by_steps}
 use Rattle.io.specs.Digits.{last_digits, IsDigitCount}
 use Rattle.search.proofs.Search.{found, found_unique}
 use Rattle.report.specs.Decimal.{width, decimal}
@@ -31,11 +34,24 @@ pub is_decimal : (n k : ℕ) → IsDigitCount 10 1 n k → last_digits 10 k n �
 unfolding decimal
 is_decimal n k f = rw (fewest_width n k f)
 
--- A number below a power of ten takes no more digits than the power has zeros.
-pub digits_most : (n k m : ℕ) → IsDigitCount 10 1 n k → 1 ≤ m → n < 10 ^ m → k ≤ m
-digits_most n k m f h l =
-    elim (dec_lt m k) [
-      | yes g ↦
-          absurd (omega (arith, f.2 (omega arith), pow-le-pow_right {n = 10} (omega arith) {i = m} {j = k - 1} (omega arith)))
-      | no g ↦ omega arith
-    ]
+-- What the library writes of a number is as few of its digits: a digit alone, or those of a tenth, and the last.
+abbrev fewest : ℕ → List ℕ → Type 0
+fewest n ds = (k : ℕ) × IsDigitCount 10 1 n k × (ds ≡ last_digits 10 k n)
+
+digit : (n : ℕ) → n < 10 → fewest n ((48 + n) ∷ [])
+digit n h =
+    let r : n % 10 ≡ n = omega (arith, h) in
+    (1, (omega arith, omega (arith, h), λ l. absurd (omega (arith, l))), rw (r, lt-ltb n 10 h) refl)
+
+ten_times : (n k : ℕ) → 1 ≤ k → 10 ≤ n → (1 < k → 10 ^ (k - 1) ≤ n / 10) → 10 ^ k ≤ n
+ten_times n zero a h c = absurd (omega arith)
+ten_times n (suc zero) a h c = h
+ten_times n (suc (suc k)) a h c =
+    let p : 10 ^ suc k ≤ n / 10 = (let e : suc (suc k) - 1 ≡ suc k = omega arith in rw e at c (omega arith)) in rw pow-suc (omega (arith, p))
+
+one_more : (n : ℕ) (ds : List ℕ) → 10 ≤ n → fewest (n / 10) ds → fewest n (ds ++ ((48 + n % 10) ∷ []))
+one_more n ds h (k, (a, b, c), e) =
+    (suc k, (omega arith, rw pow-suc (omega (arith, b)), λ l. let i : suc k - 1 ≡ k = omega arith in rw i (ten_times n k a h c)), rw (e, lt-ltb (n % 10) 10 (omega arith)) refl)
+
+pub library_decimal : (n : ℕ) → n < 2 ^ 64 → Fmt.decimal n ≡ decimal n
+library_decimal n h = let f = decimal_by_steps fewest digit one_more n h in f.2 ∙ is_decimal n f.0 f.1

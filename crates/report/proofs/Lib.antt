@@ -1,5 +1,5 @@
 pub mod Digits
-pub mod Appending
+pub mod Spaced
 pub mod Output
 pub mod UsersPrinted
 pub mod ExamplePrinted

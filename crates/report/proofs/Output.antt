@@ -19,7 +19,6 @@ use Rattle.input.specs.Form.{users, user}
 use Rattle.input.specs.Report.{told, judgement, Reports}
 use Rattle.input.specs.declared.Report.{Report}
 use Rattle.report.specs.Printed.{lines, printed}
-use Rattle.report.specs.Internal.Text.{Appended}
 use Rattle.report.specs.Print.{print_steps, printed_given, printing}
 
 -- A refusal's number and positions are the same whatever the call's result would be.
@@ -29,28 +28,23 @@ same_row r n p q e =
     let w = numbered r in let u = w.3 Unit in let v = w.3 (List ℕ) in cc
 
 pub report_printed :
-    (input : List ℕ) (r : Report) → Reports (judgement input) (users input) (user input) r →
-    lines r.users r.user (told r.outcome r.counts) ≡ printed input
+    (input : List ℕ) (r : Report) → Reports (judgement input) (users input) (user input) r → lines r.users r.user (told r.judged) ≡ printed input
 unfolding printed
 report_printed input r h = rw (h.says, h.users, h.user)
 
--- The answer and the buffer's bytes, by the buffer's length: `text` holds the output in its first n bytes.
-module _ (input zeros text out : List ℕ) (n : ℕ) (p : Appended zeros 0 (printed input) text n) where
-  number : n ≡ length (printed input)
-  number = omega (arith, p.ends)
-
-  pub no_room : length out < n → (refused 12 0 0 ≡ printed_given input (length out)) × (out ≡ left (printing input out) out)
+-- The answer and the buffer's bytes, by the buffer's length: `text` is the output.
+module _ (input text out : List ℕ) (p : text ≡ printed input) where
+  pub no_room : length out < length text → (refused 12 0 0 ≡ printed_given input (length out)) × (out ≡ left (printing input out) out)
   unfolding printed_given printing print_steps in_order
-  no_room h = let f = lt-leb (length (printed input)) (length out) (omega (arith, number)) in (rw f, rw f)
+  no_room h = let f = lt-leb (length (printed input)) (length out) (rw p at h) in (rw f, rw f)
 
   pub room :
-      (after : List ℕ) → n ≤ length out →
-      after ≡ take (length (take n text)) (take n text) ++ drop (length (take n text)) out →
-      (accepted n ≡ printed_given input (length out)) × (after ≡ left (printing input out) out)
+      (after : List ℕ) → length text ≤ length out → after ≡ take (length text) text ++ drop (length text) out →
+      (accepted (length text) ≡ printed_given input (length out)) × (after ≡ left (printing input out) out)
   unfolding printed_given printing print_steps in_order
   room after h e =
-      let f = le-leb (length (printed input)) (length out) (omega (arith, number)) in
-      (rw (f, number), e ∙ rw (f, take-length, p.front))
+      let f = le-leb (length (printed input)) (length out) (rw p at h) in
+      (rw (p, f), e ∙ rw (p, f, take-length (printed input)))
 
 -- What was written is within the buffer.
 pub within : (input : List ℕ) (room n : ℕ) → accepted n ≡ printed_given input room → n ≤ room

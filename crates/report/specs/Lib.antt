@@ -4,5 +4,3 @@ pub mod Printed
 pub mod Print
 pub mod UsersPrinted
 pub mod ExamplePrinted
--- What private contracts cite.
-pub mod Internal

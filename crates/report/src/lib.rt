@@ -14,6 +14,7 @@ ghost use Rattle.report.specs.Printed.{printed};
 ghost use Rattle.refusal.specs.Refusal.{said};
 ghost use Rattle.report.specs.Print.{printed_given, printing};
 
+use arrayvec::ArrayString;
 use refusal::Refusal;
 
 // The bytes that are enough for any output.
@@ -28,11 +29,13 @@ pub fn print(input: &[u8], out: &mut [u8]) -> Result<usize, Refusal>
     ensures leaves { out.new ≡ left (printing input.now out.old) out.old }
     ensures short { length (printed input.now) ≤ 393 }
 {
-    let mut text = [0u8; MOST];
-    let n = lines::report(input::judge(input), &mut text);
+    let report = input::judge(input);
+    let mut text = ArrayString::new();
+    lines::report(&report, &mut text);
+    let n = text.len();
     if out.len() < n {
         return Err(Refusal::NoRoom);
     }
-    layout::copy(&text[..n], out);
+    layout::copy(text.as_str().as_bytes(), out);
     Ok(n)
 }

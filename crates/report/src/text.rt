@@ -1,40 +1,33 @@
-// Text and numbers, each written to a buffer after what it already holds.
-ghost use Rattle.std.specs.Prelude.{◌+◌, ◌≤◌, length, take};
+// Numbers, each written after what a text already holds.
+ghost use Rattle.std.specs.Prelude.{◌≡◌, ◌+◌, ◌≤◌, ◌++◌, take};
+ghost use Rattle.arrayvec.specs.ArrayString.{array_string_len};
 ghost use Rattle.report.specs.Printed.{spaced, all_spaced};
-ghost use Rattle.report.specs.Internal.Text.{Appended};
 
-// Writes the text at a place, and gives the place after it.
-pub(crate) fn put(text: &[u8], out: &mut [u8], at: usize) -> usize
-    requires { at + length text.now ≤ length out.old }
-    ensures { Appended out.old at text.now out.new result }
-{
-    layout::copy(text, &mut out[at..]);
-    at + text.len()
-}
+use crate::MOST;
+use arrayvec::ArrayString;
+
+// An output, as far as it is written.
+pub(crate) type Text = ArrayString<MOST>;
 
 // A number, a space before it: no u64 takes more than 20 digits.
-pub(crate) fn number(n: u64, out: &mut [u8], at: usize) -> usize
-    requires { at + 21 ≤ length out.old }
-    ensures appended { Appended out.old at (spaced n) out.new result }
-    ensures upper_bound { result ≤ at + 21 }
+pub(crate) fn number(n: u64, text: &mut Text)
+    requires { array_string_len text.old + 21 ≤ 393 }
+    ensures appended { text.new.bytes ≡ text.old.bytes ++ spaced n }
+    ensures upper_bound { array_string_len text.new ≤ array_string_len text.old + 21 }
 {
-    let mut digits = [0u8; 20];
-    let k = io::decimal(n, &mut digits);
-    let start = put(b" ", out, at);
-    put(&digits[..k], out, start)
+    let mut digits = itoa::Buffer::new();
+    text.push_str(" ");
+    text.push_str(digits.format(n));
 }
 
 // The first of sixteen counts, as many as there are users, a space before each.
-pub(crate) fn counts(users: u8, counts: [u32; 16], out: &mut [u8], at: usize) -> usize
-    requires { at + 336 ≤ length out.old }
-    ensures appended { Appended out.old at (all_spaced (take users counts)) out.new result }
-    ensures upper_bound { result ≤ at + 336 }
+pub(crate) fn counts(users: u8, counts: &[u32; 16], text: &mut Text)
+    requires { array_string_len text.old + 336 ≤ 393 }
+    ensures appended { text.new.bytes ≡ text.old.bytes ++ all_spaced (take users counts.now) }
+    ensures upper_bound { array_string_len text.new ≤ array_string_len text.old + 336 }
 {
-    let mut end = at;
-    let mut v = 0;
-    while v < 16 && v < users as usize {
-        end = number(counts[v] as u64, out, end);
-        v += 1;
+    let n = counts.len().min(users as usize);
+    for &count in &counts[..n] {
+        number(count as u64, text);
     }
-    end
 }

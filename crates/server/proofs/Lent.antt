@@ -3,14 +3,14 @@
 use Prim.Native.Nat.{ℕ}
 use mathlib.Core.List.{List, [], ◌∷◌}
 use mathlib.Core.Path.{◌≡◌, refl, sym, ap, subst, ◌∙◌}
+use Rattle.std.specs.Prelude.{Result, Ok, Err}
+use Rattle.refusal.specs.declared.Refusal.{Refusal}
 use lib.ListN.{length}
 use borrow.Author.Tests.{eq-eqb, ne_eqb}
 use Rattle.refusal.specs.Answer.{Answer, accepted, refused, and_then}
 use Rattle.refusal.specs.Order.{Step, pass, stop, in_order}
 use Rattle.refusal.specs.Refusal.{checked}
 use Rattle.refusal.specs.Result.{Gives, left}
-use Rattle.refusal.specs.declared.Check.{Check}
-use Rattle.refusal.specs.declared.Check.TheVariants.{Passed, Refused}
 use Rattle.refusal.proofs.Numbered.{ends}
 use Rattle.protocol.specs.Server.{commit_steps, replaced, commit}
 use Rattle.protocol.specs.declared.Server.{Server}
@@ -27,15 +27,15 @@ module _ {A B : Type 0} (f : A → B) where
   through_order (pass ∷ ts) a = through_order ts a
   through_order (stop n p q ∷ ts) a = refl
 
-  through_checked : (c : Check) (a : A) → checked (f a) c ≡ through (checked a c)
-  through_checked Passed a = refl
-  through_checked (Refused r) a = sym (ends r (λ a. accepted (f a)))
+  through_checked : (c : Result Unit Refusal) (a : A) → checked (f a) c ≡ through (checked a c)
+  through_checked (Ok u) a = refl
+  through_checked (Err r) a = sym (ends r (λ a. accepted (f a)))
 
   through_left : (due : Answer A) (a : A) → f (left due a) ≡ left (through due) (f a)
   through_left (accepted b) a = refl
   through_left (refused n p q) a = refl
 
-  through_gives : {due : Answer A} {before after : A} {c : Check} → Gives due before after c → Gives (through due) (f before) (f after) c
+  through_gives : {due : Answer A} {before after : A} {c : Result Unit Refusal} → Gives due before after c → Gives (through due) (f before) (f after) c
   through_gives {due} {before} {after} {c} g =
       record { answers = through_checked c after ∙ ap through g.answers; leaves = ap f g.leaves ∙ through_left due before }
 
@@ -62,7 +62,7 @@ module _ (N : ℕ) (b x : List ℕ) (mark : ℕ) where
 
     -- What such a commit gives, the list has.
     pub gives_list :
-        {after : List ℕ} {c : Check} → Gives (commit_into N b x mark) b after c →
+        {after : List ℕ} {c : Result Unit Refusal} → Gives (commit_into N b x mark) b after c →
         Gives (commit list x mark) list (record { users = N; records = after }) c
     gives_list {after} {c} g =
         subst (λ (due : Answer Server). Gives due list (with_records N after) c) in_list (through_gives (with_records N) g)

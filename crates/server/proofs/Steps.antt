@@ -1,37 +1,36 @@
 -- A commit's tests in their order: what they answer, by the first of them that fails.
-use Prim.Native.Nat.{ℕ, ◌+◌, ◌≤◌, ◌<◌}
+use Prim.Native.Nat.{ℕ, ◌+◌, ◌<◌}
 use mathlib.Core.Bool.{Bool, true, false, not}
 use mathlib.Core.List.{List}
 use mathlib.Core.Path.{◌≡◌, refl, sym}
 use native.Mathlib.Omega.{arith}
 use lib.Dec.{eqb}
-use lib.ListN.{length, get_or}
+use lib.ListN.{length}
 use borrow.Author.Tests.{eq-eqb, ne_eqb, eqb-true}
-use Rattle.search.specs.Search.{find}
+use Rattle.std.specs.Prelude.{None, Some}
+use Rattle.search.specs.Search.{first}
+use Rattle.search.proofs.Place.{was_first, was_none}
 use Rattle.search.proofs.Search.{some_fails, none_fails}
 use Rattle.refusal.specs.Answer.{accepted, refused}
 use Rattle.refusal.specs.Order.{in_order, tried}
 use Rattle.refusal.proofs.Order.{passed, unless_passed}
 use Rattle.protocol.specs.Version.{size, owner, count, own, well_formed}
-use Rattle.protocol.specs.Server.{slot, held_own, follows, commit_steps}
+use Rattle.protocol.specs.Server.{held, held_own, follows, commit_steps}
 use Rattle.protocol.specs.declared.Server.{Server}
 use Rattle.version.specs.declared.Version.{Version}
 use Rattle.version.specs.Version.{fields}
-use Rattle.version.proofs.Laws.{count_fields}
 use Rattle.protocol.proofs.Conditions.{owner_below}
-use Rattle.protocol.proofs.Held.{held_own_is}
 
 -- The owner that is read from a record.
 pub owner_fields : (x : List ℕ) → (fields x).owner ≡ owner x
 unfolding fields
 owner_fields x = refl
 
--- The own count read from the record, compared with that in the owner's slot.
+-- The own count read from the record, compared with that of what is held of its owner.
 pub next_read :
-    (s : Server) (x : List ℕ) (f : Version) (h : ℕ) (b : Bool) → owner x < 16 → f ≡ fields x →
-    h ≡ count (slot s f.owner) f.owner → b ≡ eqb (get_or f.counts f.owner 0) (h + 1) →
-    eqb (own x) (held_own s (owner x) + 1) ≡ b
-next_read s x f h b u e eh eb = rw (eb, eh, e, owner_fields x, held_own_is s (owner x), count_fields x (owner x) u)
+    (s : Server) (x : List ℕ) (f : Version) (h : List ℕ) (o n : ℕ) (b : Bool) → f ≡ fields x → h ≡ held s f.owner →
+    o ≡ own x → n ≡ count h f.owner → b ≡ eqb o (n + 1) → eqb (own x) (held_own s (owner x) + 1) ≡ b
+next_read s x f h o n b e eh eo en eb = rw (eb, eo, en, eh, e, owner_fields x)
 
 module _ (s : Server) (x : List ℕ) (mark : ℕ) where
   pub other_length : (length x ≡ size → ⊥) → refused 2 0 0 ≡ tried (commit_steps s x mark)
@@ -53,14 +52,18 @@ module _ (s : Server) (x : List ℕ) (mark : ℕ) where
         unfolding commit_steps in_order
         not_next n = rw (eq-eqb (length x) size l, w, eq-eqb mark 1 m, n)
 
-        module _ (n : eqb (own x) (held_own s (owner x) + 1) ≡ true) (v : ℕ) (e : v ≡ find (λ i. not (follows s x i)) 0 16) where
-          pub apart : v < 16 → refused 7 v 0 ≡ tried (commit_steps s x mark)
+        module _ (n : eqb (own x) (held_own s (owner x) + 1) ≡ true) where
+          pub apart : {v : ℕ} → first (λ i. not (follows s x i)) 0 16 ≡ Some v → refused 7 v 0 ≡ tried (commit_steps s x mark)
           unfolding commit_steps in_order
-          apart h = rw (eq-eqb (length x) size l, w, eq-eqb mark 1 m, n, some_fails (follows s x) 16 v e (λ q. omega arith), sym e)
+          apart {v} e =
+              let f = was_first (λ i. not (follows s x i)) 0 16 e in
+              rw (eq-eqb (length x) size l, w, eq-eqb mark 1 m, n, some_fails (follows s x) 16 v (sym f.0) (λ q. omega (arith, f.1)), f.0)
 
-          pub passes : 16 ≤ v → accepted tt ≡ tried (commit_steps s x mark)
+          pub passes : first (λ i. not (follows s x i)) 0 16 ≡ None → accepted tt ≡ tried (commit_steps s x mark)
           unfolding commit_steps in_order
-          passes h = rw (eq-eqb (length x) size l, w, eq-eqb mark 1 m, n, none_fails (follows s x) 16 v e h)
+          passes e =
+              let f = was_none (λ i. not (follows s x i)) 0 16 e in
+              rw (eq-eqb (length x) size l, w, eq-eqb mark 1 m, n, none_fails (follows s x) 16 16 (sym f) (omega arith))
 
   -- A record that passes has its length, and one of the sixteen users for its owner.
   pub owned : accepted tt ≡ tried (commit_steps s x mark) → (length x ≡ size) × (owner x < 16)

@@ -1,25 +1,48 @@
-// What is held of one user: the record in that user's place of the list's records.
-ghost use Rattle.std.specs.Prelude.{◌≡◌, ◌<◌, length};
-ghost use Rattle.layout.specs.Bytes.{part};
-ghost use Rattle.protocol.specs.Version.{size, count};
-ghost use Rattle.version.specs.Version.{fields};
+// The server's list with its records lent, and what is held of one user: the record in that user's place.
+ghost use Rattle.std.specs.Prelude.{◌≡◌, ◌<◌, ◌≤◌, length};
+ghost use Rattle.protocol.specs.declared.Server.{Server};
+ghost use Rattle.protocol.specs.Version.{size, count as count_of};
+ghost use Rattle.protocol.specs.Server.{slot as slot_of, held as held_of};
 
+use std::marker::Model;
 use version::SIZE;
 
-// The counts in user v's place.
-pub(crate) fn counts(records: &[u8], v: usize) -> [u32; 16]
-    requires { (length records.now ≡ 1568) × (v < 16) }
-    ensures { result ≡ (fields (part size records.now v)).counts }
-{
-    let at = SIZE * v;
-    version::counts(&records[at..at + SIZE])
+// A server's list whose sixteen records are lent. In a contract it is the list.
+#[derive(Drop)]
+pub(crate) struct Lent<'a> {
+    pub(crate) users: u8,
+    pub(crate) records: &'a [u8],
 }
 
-// User v's own count in its place; 0 says that no record is held of v.
-pub(crate) fn own_count(records: &[u8], v: usize) -> u32
-    requires { (length records.now ≡ 1568) × (v < 16) }
-    ensures { result ≡ count (part size records.now v) v }
-{
-    let at = SIZE * v;
-    version::count(&records[at..at + SIZE], v as u8)
+impl<'a> Model for Lent<'a> {
+    ghost Value = { Server };
+
+    ghost view = { λ l. record { users = l.users; records = l.records.now } };
+
+    ghost invariant = { λ l. length l.records.now ≡ 1568 };
+}
+
+impl Lent<'_> {
+    // User v's place.
+    fn slot(&self, v: usize) -> &[u8]
+        requires { v < 16 }
+        ensures place { result.now ≡ slot_of self.now v }
+        ensures whole { length result.now ≡ size }
+    {
+        let at = SIZE * v;
+        &self.records[at..at + SIZE]
+    }
+
+    // The record held of user v: none, so no bytes, where the own count in its place is 0.
+    pub(crate) fn held(&self, v: usize) -> &[u8]
+        requires { v < 16 }
+        ensures record { result.now ≡ held_of self.now v }
+        ensures one { length result.now ≤ size }
+    {
+        let slot = self.slot(v);
+        if version::count(slot, v as u8) == 0 {
+            return &[];
+        }
+        slot
+    }
 }

@@ -4,6 +4,7 @@
 // exactly where its own count is not 0. It checks no signature; a mark says whether one is good.
 #![tactic(auto)]
 
+use crate::held::Lent;
 use protocol::{RECORDS, Server};
 use refusal::Refusal;
 use version::SIZE;
@@ -19,16 +20,10 @@ ghost use Rattle.protocol.specs.Server.{empty as empty_of, make as make_of, list
 ghost use Rattle.refusal.specs.Refusal.{said};
 ghost use Rattle.server.specs.Commit.{commit_into};
 
-// What making gives: the check of the number of users, and the server's list.
+// What making or a commit gives: the check of what was given, and the server's list after it.
+// Kept: a struct of a check and a list, since the clauses `Gives` of `make` and `commit` promise a list on a refusal too.
 #[derive(Clone, Copy)]
-pub struct Made {
-    pub check: Result<(), Refusal>,
-    pub server: Server,
-}
-
-// What a commit gives: the check of the record, and the server's list after it.
-#[derive(Clone, Copy)]
-pub struct Committed {
+pub struct Outcome {
     pub check: Result<(), Refusal>,
     pub server: Server,
 }
@@ -36,22 +31,28 @@ pub struct Committed {
 fn empty(users: u8) -> Server
     ensures { result ≡ empty_of users }
 {
-    let records = [0u8; RECORDS];
-    Server { users, records }
+    Server {
+        users,
+        records: [0; RECORDS],
+    }
 }
 
 // The empty list for this number of users. Where the number is refused, the empty list for one
 // user comes back.
-pub fn make(users: u8) -> Made
+pub fn make(users: u8) -> Outcome
     ensures { Gives (make_of users) (empty_of 1) result.server result.check }
 {
     let check = checks::make_check(users);
-    let Ok(()) = check else {
-        let server = empty(1);
-        return Made { check, server };
-    };
-    let server = empty(users);
-    Made { check, server }
+    match check {
+        Ok(()) => Outcome {
+            check,
+            server: empty(users),
+        },
+        Err(_) => Outcome {
+            check,
+            server: empty(1),
+        },
+    }
 }
 
 // Writes the held records, owners ascending, to the front of `out`, and keeps the bytes after
@@ -60,12 +61,16 @@ pub fn list(server: Server, out: &mut [u8]) -> Result<usize, Refusal>
     ensures answers { said result ≡ listed server (length out.old) }
     ensures leaves { out.new ≡ left (listing_of server out.old) out.old }
 {
-    let n = listing::number(&server.records);
-    if out.len() < SIZE * n {
+    let lent = Lent {
+        users: server.users,
+        records: &server.records,
+    };
+    let length = lent.length();
+    if out.len() < length {
         return Err(Refusal::NoRoom);
     }
-    listing::write(&server.records, out);
-    Ok(n)
+    lent.write(out);
+    Ok(length / SIZE)
 }
 
 // Puts the record into its owner's place.
@@ -86,22 +91,16 @@ pub fn commit_into(users: u8, records: &mut [u8], x: &[u8], mark: u8) -> Result<
     if records.len() != RECORDS {
         return Err(Refusal::Length(0));
     }
-    checks::commit_check(users, records, x, mark)?;
+    Lent { users, records }.commit_check(x, mark)?;
     replace(records, x, version::owner(x) as usize);
-    check
+    Ok(())
 }
 
 // Takes the record in its owner's place, if it is signed by mark 1 and comes next after all that is
 // held. A refused commit gives the list back as it was.
-pub fn commit(server: Server, x: &[u8], mark: u8) -> Committed
+pub fn commit(mut server: Server, x: &[u8], mark: u8) -> Outcome
     ensures { Gives (commit_of server x.now mark) server result.server result.check }
 {
-    let users = server.users;
-    let mut records = server.records;
-    let check = commit_into(users, &mut records, x, mark);
-    let after = Server { users, records };
-    Committed {
-        check,
-        server: after,
-    }
+    let check = commit_into(server.users, &mut server.records, x, mark);
+    Outcome { check, server }
 }

@@ -7,32 +7,28 @@ mod count;
 mod row;
 
 ghost use Rattle.std.specs.Prelude.{◌≡◌, not, length};
-ghost use Rattle.search.specs.Search.{find};
+ghost use Rattle.search.specs.Search.{first};
 ghost use Rattle.refusal.specs.Refusal.{said};
 ghost use Rattle.refusal.specs.Order.{tried};
 ghost use Rattle.itable.specs.Write.{number_above, write_steps};
 ghost use Rattle.writer.specs.Written.{Writes};
 
+use block::SIZE;
 use refusal::Refusal;
 
 // The most files that a table has.
 const MOST: usize = 4096;
 
-// The first place whose i-number is not above the one before; the number of places if there is none.
-fn not_above(numbers: &[u64]) -> usize
-    ensures { result ≡ find (λ i. not (number_above numbers.now i)) 0 (length numbers.now) }
+// The first place whose i-number is not above the one before, if there is one.
+fn not_above(numbers: &[u64]) -> Option<usize>
+    ensures { result ≡ first (λ i. not (number_above numbers.now i)) 0 (length numbers.now) }
 {
-    if numbers.len() == 0 {
-        return 0;
-    }
-    let mut i = 1;
-    while i < numbers.len() {
+    for i in 1..numbers.len() {
         if numbers[i] <= numbers[i - 1] {
-            return i;
+            return Some(i);
         }
-        i += 1;
     }
-    i
+    None
 }
 
 // The tests, in their order. A product is formed where its factors are known to be small.
@@ -40,15 +36,11 @@ fn admit(numbers: &[u64], handles: &[u8], room: usize) -> Result<(), Refusal>
     ensures { said result ≡ tried (write_steps numbers.now handles.now room) }
 {
     let n = numbers.len();
-    if MOST < n {
+    if MOST < n || handles.len() != 32 * n {
         return Err(Refusal::Length(0));
     }
-    if handles.len() != 32 * n {
-        return Err(Refusal::Length(0));
-    }
-    let i = not_above(numbers);
-    let whole = block::SIZE * count::blocks(n);
-    if i < n {
+    let whole = SIZE * count::blocks(n);
+    if let Some(i) = not_above(numbers) {
         return Err(Refusal::NotAscending(i));
     }
     if room < whole {
@@ -65,15 +57,14 @@ pub fn write(numbers: &[u64], handles: &[u8], out: &mut [u8]) -> Result<usize, R
 {
     admit(numbers, handles, out.len())?;
     let l = count::wide(numbers.len());
-    row::leaves(numbers, handles, l, out);
-    if l <= 1 {
-        return Ok(l);
-    }
-    let f = count::wide(l);
-    row::inner(4, 0, l, f, out);
-    if f <= 1 {
-        return Ok(l + f);
-    }
-    row::inner(5, l, f, 1, out);
-    Ok(l + f + 1)
+    let f = count::over(l);
+    let v = count::over(f);
+    let (leaves, rest) = out.split_at_mut(SIZE * l);
+    let (fours, rest) = rest.split_at_mut(SIZE * f);
+    let (fives, _) = rest.split_at_mut(SIZE * v);
+    row::leaves(numbers, handles, leaves);
+    // Kept: a kind is a byte of the block, as `block::fill` takes it and `row` (itable) says it.
+    row::inner(4, leaves, fours);
+    row::inner(5, fours, fives);
+    Ok(l + f + v)
 }

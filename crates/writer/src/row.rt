@@ -1,20 +1,20 @@
-// Rows of blocks: the leaves over the files, and inner blocks over blocks that are written already.
-ghost use Rattle.std.specs.Prelude.{◌≡◌, ◌+◌, ◌*◌, ◌≤◌, ◌++◌, length, take, drop};
+// Rows of blocks: the leaves over the files, and inner blocks over a row that is written already.
+ghost use Rattle.std.specs.Prelude.{◌≡◌, ◌*◌, ◌≤◌, length};
+ghost use Rattle.layout.specs.Bytes.{parts};
 ghost use Rattle.itable.specs.Table.{files, row, wide};
 ghost use Rattle.writer.specs.Internal.Children.{children, ReadBack};
 
 use crate::count;
 use block::{LEAF, SIZE, fill};
 
-// Writes the l leaves over the files.
-pub(crate) fn leaves(numbers: &[u64], handles: &[u8], l: usize, out: &mut [u8])
-    requires { (l ≡ wide (length numbers.now)) × (length numbers.now ≤ 4096) × (length handles.now ≡ 32 * length numbers.now) ×
-        (642 * l ≤ length out.old) }
-    ensures { out.new ≡ row 3 (files numbers.now handles.now) 0 l ++ drop (642 * l) out.old }
+// Writes the leaves over the files, which fill the buffer.
+pub(crate) fn leaves(numbers: &[u64], handles: &[u8], out: &mut [u8])
+    requires handles_len { length handles.now ≡ 32 * length numbers.now }
+    requires out_len { length out.old ≡ 642 * wide (length numbers.now) }
+    ensures { out.new ≡ row 3 (files numbers.now handles.now) 0 (wide (length numbers.now)) }
 {
     let n = numbers.len();
-    let mut k = 0;
-    while k < l {
+    for k in 0..count::wide(n) {
         let u = count::used_in(n, k);
         let a = 16 * k;
         let b = 512 * k;
@@ -25,45 +25,44 @@ pub(crate) fn leaves(numbers: &[u64], handles: &[u8], l: usize, out: &mut [u8])
             &handles[b..b + 32 * u],
             &mut out[at..at + SIZE],
         );
-        k += 1;
     }
 }
 
-// Reads u blocks back: the first number and the hash of each.
-fn read_back(blocks: &[u8], u: usize, numbers: &mut [u64], hashes: &mut [u8])
-    requires { (u ≤ 16) × (length blocks.now ≡ 642 * u) × (length numbers.old ≡ 16) × (length hashes.old ≡ 512) }
-    ensures { ReadBack blocks.now u numbers.new hashes.new }
+// Reads blocks back, 16 at most: the first number and the hash of each.
+fn read_back(blocks: &[u8], numbers: &mut [u64], hashes: &mut [u8])
+    requires few { parts 642 blocks.now ≤ 16 }
+    requires numbers_len { length numbers.old ≡ 16 }
+    requires hashes_len { length hashes.old ≡ 512 }
+    ensures { ReadBack blocks.now (parts 642 blocks.now) numbers.new hashes.new }
 {
-    let mut j = 0;
-    while j < u {
+    for j in 0..blocks.len() / SIZE {
         let a = SIZE * j;
         let b = 32 * j;
         numbers[j] = block::number(&blocks[a..a + SIZE], 0);
-        sha256::sha256(&blocks[a..a + SIZE], &mut hashes[b..b + 32]);
-        j += 1;
+        let _ = sha256::sha256(&blocks[a..a + SIZE], &mut hashes[b..b + 32]);
     }
 }
 
-// Writes the w blocks of a kind over the n blocks from block `from` on, after them.
-pub(crate) fn inner(kind: u8, from: usize, n: usize, w: usize, out: &mut [u8])
-    requires { (w ≡ wide n) × (1 ≤ n) × (n ≤ 256) × (from ≤ 256) × (642 * (from + n + w) ≤ length out.old) }
-    ensures { out.new ≡ take (642 * (from + n)) out.old ++
-        (row kind (children out.old from n) 0 w ++ drop (642 * (from + n + w)) out.old) }
+// Writes blocks of a kind over the row below, as many as fill the buffer.
+pub(crate) fn inner(kind: u8, below: &[u8], out: &mut [u8])
+    requires most { parts 642 out.old ≤ wide (parts 642 below.now) }
+    requires whole { length out.old ≡ 642 * parts 642 out.old }
+    ensures { out.new ≡ row kind (children below.now 0 (parts 642 below.now)) 0 (parts 642 out.old) }
 {
+    let n = below.len() / SIZE;
+    // Kept: two arrays side by side, since `block::fill` takes numbers and values as two slices.
     let mut numbers = [0u64; 16];
     let mut hashes = [0u8; 512];
-    let mut k = 0;
-    while k < w {
+    for k in 0..out.len() / SIZE {
         let u = count::used_in(n, k);
-        let a = SIZE * (from + 16 * k);
-        read_back(&out[a..a + SIZE * u], u, &mut numbers, &mut hashes);
-        let at = SIZE * (from + n + k);
+        let a = SIZE * (16 * k);
+        read_back(&below[a..a + SIZE * u], &mut numbers, &mut hashes);
+        let at = SIZE * k;
         fill::fill(
             kind,
-            &numbers[0..u],
-            &hashes[0..32 * u],
+            &numbers[..u],
+            &hashes[..32 * u],
             &mut out[at..at + SIZE],
         );
-        k += 1;
     }
 }

@@ -6,8 +6,7 @@ use Rattle.report.proofs.Output.{within}
 use Rattle.desk.proofs.main.Goals as goal
 
 pub slice_bounds-output-end : goal.slice_bounds-output-end
-slice_bounds-output-end c = omega (arith, within _ 393 _ (rw c.in-Bytes.is at c.print-printed.ensures.answers))
+slice_bounds-output-end c = omega (arith, within _ 393 _ c.in-Ok.ensures.answers)
 
 pub slice_bounds-write-end : goal.slice_bounds-write-end
-slice_bounds-write-end c =
-    sym (length-take-le _ _ (omega (arith, within _ 393 _ (rw c.in-Bytes.is at c.print-printed.ensures.answers))))
+slice_bounds-write-end c = sym (length-take-le _ _ (omega (arith, within _ 393 _ c.in-Ok.ensures.answers)))

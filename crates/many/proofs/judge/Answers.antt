@@ -9,26 +9,26 @@ use Rattle.many.proofs.judge.Goals as goal
 
 pub loop-q-init : goal.loop-q-init
 unfolding total
-loop-q-init c = (omega arith, refl, none_known c.args.paths.now _, λ j h. absurd (omega arith))
+loop-q-init c = (refl, refl, none_known c.args.paths.now, λ j h. absurd (omega arith))
 
 pub overflow_add-first : goal.overflow_add-first
 overflow_add-first c =
     let l = c.loop-q in
-    omega (arith, within c.args.counts.now c.args.paths.now l.q _ _ c.requires.2 l.invariant.1 c.wide-n.ensures)
+    omega (arith, within c.args.counts.now c.args.paths.now l.q _ _ c.requires.2 l.invariant.0 c.from-n.ensures)
 
-pub ask-asked-requires : goal.ask-asked-requires
-ask-asked-requires c =
+pub ask-requires : goal.ask-requires
+ask-requires c =
     let l = c.loop-q in
-    (c.requires.0, within _ c.args.paths.now l.q _ _ c.requires.2 l.invariant.1 c.wide-n.ensures, l.invariant.2)
+    (c.requires.0, within _ c.args.paths.now l.q _ _ c.requires.2 l.invariant.0 c.from-n.ensures, l.invariant.2)
 
-pub returns-in-Refused : goal.returns-in-Refused
-returns-in-Refused c =
+pub returns-in-Err : goal.returns-in-Err
+returns-in-Err c =
     let l = c.loop-q in
     let a = c.args in
     refused_at a.handle.now a.numbers.now a.counts.now a.paths.now l.q c.loop-q-test.true l.invariant.3
     (sym
-    (asked a.handle.now a.numbers.now a.counts.now a.paths.now l.q l.first _ _ l.invariant.1 c.wide-n.ensures
-    refl c.ask-asked.ensures c.in-Refused.is))
+    (asked a.handle.now a.numbers.now a.counts.now a.paths.now l.q l.first _ _ l.invariant.0 c.from-n.ensures
+    refl c.ask.ensures c.in-Err.is))
 
 pub loop-q-preserved : goal.loop-q-preserved
 loop-q-preserved c =
@@ -36,11 +36,11 @@ loop-q-preserved c =
     let a = c.args in
     let e =
     sym
-    (asked a.handle.now a.numbers.now a.counts.now a.paths.now l.q l.first _ _ l.invariant.1 c.wide-n.ensures refl
-    c.ask-asked.ensures c.in_default.is) in (
-      omega arith,
-      rw (total_next a.counts.now l.q, ← l.invariant.1, ← c.wide-n.ensures),
-      c.ask-asked.ensures.knows,
+    (asked a.handle.now a.numbers.now a.counts.now a.paths.now l.q l.first _ _ l.invariant.0 c.from-n.ensures refl
+    c.ask.ensures c.in_default.is) in (
+      rw (total_next a.counts.now l.q, ← l.invariant.0, ← c.from-n.ensures),
+      c.ask.array_long,
+      c.ask.ensures.knows,
       below_more _ _ l.invariant.3 (e, some_block a.handle.now a.numbers.now a.counts.now a.paths.now l.q c.requires.2 e),
     )
 

@@ -1,9 +1,6 @@
 -- The lengths are the definition's; then the questions are judged, and where all are accepted their answers are written. There is no loop.
-use mathlib.Core.Path.{ap}
-use borrow.Author.Rules.{rules}
-use denote.Enum.Declared.{tag_of}
+use mathlib.Core.Path.{refl, ◌∙◌}
 use Rattle.search.proofs.Bool.{not_both}
-use Rattle.many.specs.contracts.Outcome.{the_type}
 use Rattle.many.proofs.Answering.{wrong_length, handed_on, answered}
 use Rattle.many.proofs.lookup.Goals as goal
 
@@ -15,27 +12,27 @@ returns-then-not-sized c =
     (λ w. not_both (c.sized.ensures.1 w) c.if-not-sized.true) in
     record { answers = told.0; leaves = told.1 }
 
-pub judge-outcome-requires : goal.judge-outcome-requires
-judge-outcome-requires c =
+pub judge-requires : goal.judge-requires
+judge-requires c =
     let s = c.sized.ensures.0 c.if-not-sized.false in (s.handle_long, s.count_each, s.filled)
 
-pub returns-in_default : goal.returns-in_default
-returns-in_default c =
+pub returns-in_err-judge : goal.returns-in_err-judge
+returns-in_err-judge c =
     let a = c.args in
     let told =
     handed_on a.handle.now a.numbers.now a.counts.now a.paths.now a.out.now (c.sized.ensures.0 c.if-not-sized.false)
-    c.judge-outcome.ensures (ap (tag_of the_type) c.in_default.is) in
+    c.judge.ensures c.in_err-judge.was _ c.from_residual.ensures.1 in
     record { answers = told.0; leaves = told.1 }
 
 pub write-requires : goal.write-requires
 write-requires c =
     let s = c.sized.ensures.0 c.if-not-sized.false in
-    (s.count_each, s.filled, s.room_due, c.judge-outcome.ensures.counted (search rules))
+    (s.count_each, s.filled, s.room_due, c.judge.ensures.counted (c.in_ok-judge.was ∙ refl))
 
 pub returns : goal.returns
 returns c =
     let a = c.args in
     let told =
     answered a.handle.now a.numbers.now a.counts.now a.paths.now a.out.now (c.sized.ensures.0 c.if-not-sized.false)
-    c.judge-outcome.ensures c.in-Answered.is c.write.ensures in
+    c.judge.ensures c.in_ok-judge.was c.write.ensures in
     record { answers = told.0; leaves = told.1 }

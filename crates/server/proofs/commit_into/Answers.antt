@@ -2,9 +2,11 @@
 -- place. There is no loop.
 use mathlib.Core.Path.{refl, sym, ap, ◌∙◌}
 use borrow.Author.Rules.{rules}
+use Rattle.refusal.specs.Answer.{accepted}
 use Rattle.refusal.specs.Refusal.{said}
-use Rattle.refusal.proofs.Match.{gives_refused as gives-refusal}
-use Rattle.refusal.proofs.Stage.{gives_passed, gives_refused}
+use Rattle.protocol.specs.declared.Server.{Server}
+use Rattle.refusal.proofs.Match.{gives_refused}
+use Rattle.refusal.proofs.Stage.{hands_on, goes_on_to, gives_result}
 use Rattle.protocol.specs.Server.{commit_steps, replaced}
 use Rattle.server.proofs.Lent.{other_size, by_steps}
 use Rattle.server.proofs.Steps.{owned}
@@ -13,27 +15,30 @@ use Rattle.server.proofs.commit_into.Goals as goal
 pub returns-then-records-ne-RECORDS : goal.returns-then-records-ne-RECORDS
 returns-then-records-ne-RECORDS c =
     let a = c.args in
-    gives-refusal (other_size a.users a.records.now a.x.now a.mark c.if-records-ne-RECORDS.true) refl
+    gives_refused (other_size a.users a.records.now a.x.now a.mark c.if-records-ne-RECORDS.true) refl
 
-pub returns-in_default : goal.returns-in_default
-returns-in_default c =
+pub returns-in_err-commit_check : goal.returns-in_err-commit_check
+returns-in_err-commit_check c =
     let a = c.args in
-    rw (by_steps a.users a.records.now a.x.now a.mark c.if-records-ne-RECORDS.false)
-    (gives_refused (commit_steps (record { users = a.users; records = a.records.now }) a.x.now a.mark) c.commit_check-check.result c.commit_check-check.ensures a.records.now
-    (replaced (record { users = a.users; records = a.records.now }) a.x.now).records refl c.in_default.is)
+    let s : Server = record { users = a.users; records = a.records.now } in
+    hands_on (commit_steps s a.x.now a.mark) (accepted (replaced s a.x.now).records)
+    (by_steps a.users a.records.now a.x.now a.mark c.if-records-ne-RECORDS.false) c.commit_check.result c.commit_check.ensures
+    c.in_err-commit_check.was c.from_residual.ensures.1
 
 pub replace-requires : goal.replace-requires
 replace-requires c =
     let a = c.args in
     -- What the tests say of a record that passed them.
     let f =
-    owned (record { users = a.users; records = a.records.now }) a.x.now a.mark (ap said (sym c.in-Passed.is) ∙ c.commit_check-check.ensures) in
+    owned (record { users = a.users; records = a.records.now }) a.x.now a.mark (ap said (sym c.in_ok-commit_check.was) ∙ c.commit_check.ensures) in
     (search rules, f.0, rw c.owner.ensures f.1)
 
 pub returns : goal.returns
 unfolding replaced
 returns c =
     let a = c.args in
-    rw (by_steps a.users a.records.now a.x.now a.mark c.if-records-ne-RECORDS.false)
-    (gives_passed (commit_steps (record { users = a.users; records = a.records.now }) a.x.now a.mark) c.commit_check-check.result c.commit_check-check.ensures a.records.now
-    (replaced (record { users = a.users; records = a.records.now }) a.x.now).records (rw c.owner.ensures at c.replace.ensures) c.in-Passed.is)
+    let s : Server = record { users = a.users; records = a.records.now } in
+    let d = by_steps a.users a.records.now a.x.now a.mark c.if-records-ne-RECORDS.false in
+    gives_result a.records.now _
+    (goes_on_to (commit_steps s a.x.now a.mark) (accepted (replaced s a.x.now).records) d c.commit_check.result c.commit_check.ensures
+    c.in_ok-commit_check.was) (rw c.owner.ensures at c.replace.ensures)

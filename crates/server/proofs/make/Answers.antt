@@ -4,16 +4,16 @@ use Rattle.refusal.proofs.Stage.{gives_passed, gives_refused}
 use Rattle.protocol.specs.Server.{empty, make_steps, make}
 use Rattle.server.proofs.make.Goals as goal
 
-pub returns-in_default : goal.returns-in_default
+pub returns-in-Ok : goal.returns-in-Ok
 unfolding make
-returns-in_default c =
+returns-in-Ok c =
     let n = c.args.users in
     let k = c.make_check-check in
-    gives_refused (make_steps n) k.result k.ensures (empty 1) (empty n) c.empty-server.ensures c.in_default.is
+    gives_passed (make_steps n) k.result k.ensures (empty 1) (empty n) c.empty.ensures c.in-Ok.is
 
-pub returns : goal.returns
+pub returns-in-Err : goal.returns-in-Err
 unfolding make
-returns c =
+returns-in-Err c =
     let n = c.args.users in
     let k = c.make_check-check in
-    gives_passed (make_steps n) k.result k.ensures (empty 1) (empty n) c.empty-server-2.ensures c.in-Passed.is
+    gives_refused (make_steps n) k.result k.ensures (empty 1) (empty n) c.empty-in-Err.ensures c.in-Err.is

@@ -1,21 +1,27 @@
 -- The tests of the definition, in its order; each `return` has the first that fails.
-use Rattle.writer.proofs.Admission.{too_many, not_handled, not_ascending, no_room, admitted}
+use Rattle.std.proofs.Common.{sym, rules, arith}
+use Rattle.refusal.specs.Order.{in_order}
+use Rattle.search.specs.Search.{every}
+use Rattle.search.proofs.Place.{was_first, was_none}
+use Rattle.itable.specs.Write.{write_steps}
+use Rattle.itable.proofs.AtMostBlocks.{at_most_blocks}
 use Rattle.writer.proofs.admit.Goals as goal
 
 pub returns-then-n-gt-MOST : goal.returns-then-n-gt-MOST
-returns-then-n-gt-MOST c = too_many _ _ _ c.if-n-gt-MOST.true
+unfolding write_steps in_order
+returns-then-n-gt-MOST c = search rules
 
-pub returns-then-handles-n : goal.returns-then-handles-n
-returns-then-handles-n c = not_handled _ _ _ c.if-n-gt-MOST.false c.if-handles-n.true
+pub overflow_mul-whole : goal.overflow_mul-whole
+overflow_mul-whole c = let most = at_most_blocks _ c.if-n-gt-MOST.false in omega arith
 
-pub returns-then-i-n : goal.returns-then-i-n
-returns-then-i-n c =
-    not_ascending _ _ _ c.if-n-gt-MOST.false c.if-handles-n.false _ c.not_above-i.ensures c.if-i-n.true
+pub returns-in-Some : goal.returns-in-Some
+unfolding write_steps in_order every
+returns-in-Some c = let f = was_first _ 0 _ (sym c.in-Some.ensures) in search rules
 
 pub returns-then-room-whole : goal.returns-then-room-whole
-returns-then-room-whole c =
-    no_room _ _ _ c.if-n-gt-MOST.false c.if-handles-n.false _ c.not_above-i.ensures c.if-i-n.false _ c.blocks-whole.ensures.0 c.if-room-whole.true
+unfolding write_steps in_order every
+returns-then-room-whole c = let f = was_none _ 0 _ (sym c.in_default.ensures) in search rules
 
 pub returns : goal.returns
-returns c =
-    admitted _ _ _ c.if-n-gt-MOST.false c.if-handles-n.false _ c.not_above-i.ensures c.if-i-n.false _ c.blocks-whole.ensures.0 c.if-room-whole.false
+unfolding write_steps in_order every
+returns c = let f = was_none _ 0 _ (sym c.in_default.ensures) in search rules

@@ -1,62 +1,48 @@
--- The tests come first, and a refusal has written nothing. Each row is then written after the one that it is over, and the table has as many rows
--- as are written here.
-use mathlib.Core.Path.{◌∙◌}
-use Rattle.itable.specs.Table.{files}
-use Rattle.writer.proofs.Answers.{admitted_by, writes_nothing, writes_all, leaves_ask, fours_ask, fives_ask}
-use Rattle.writer.proofs.Counts.{one_leaf, one_four, one_five}
+-- The tests come first, and a refusal has written nothing. The rows then fill parts of the buffer one behind the other, each over the row below.
+use Rattle.std.proofs.Common.{◌≡◌, ◌∙◌, ◌*◌, ap, sym, drop, arith}
+use Rattle.layout.specs.Bytes.{parts}
+use Rattle.itable.specs.Table.{files, row}
+use Rattle.writer.proofs.Admitted.{admitted_by, writes_nothing, rows_fit, writes_all}
 use Rattle.writer.proofs.Rows.{files_sized}
-use Rattle.writer.proofs.Whole.{leaves_alone, fours_last, fives_last}
+use Rattle.writer.proofs.Whole.{whole_is}
 use Rattle.writer.proofs.write.Goals as goal
 
-pub returns-in-Refused : goal.returns-in-Refused
-returns-in-Refused c =
-    writes_nothing _ _ _ _ c.admit-c.ensures c.in-Refused.is
+pub returns-in_err-admit : goal.returns-in_err-admit
+returns-in_err-admit c = writes_nothing _ _ _ _ c.admit.ensures c.from_residual.result c.in_err-admit.was c.from_residual.ensures.1
 
-pub leaves-requires : goal.leaves-requires
-leaves-requires c =
-    let a = c.args in
-    leaves_ask _ _ _ (admitted_by a.numbers.now a.handles.now a.out.now _ c.admit-c.ensures c.in_default.is) _
-    c.wide-l.ensures.0
+pub overflow_mul-l : goal.overflow_mul-l
+overflow_mul-l c =
+    let t = rows_fit _ _ _ _ c.admit.ensures c.in_ok-admit.was _ _ _ c.wide-l.ensures c.over-f.ensures c.over-v.ensures in omega arith
 
-pub returns-then-l-le1 : goal.returns-then-l-le1
-unfolding files
-returns-then-l-le1 c =
-    let a = c.args in
-    let d = admitted_by a.numbers.now a.handles.now a.out.now _ c.admit-c.ensures c.in_default.is in
-    writes_all _ _ _ _ c.admit-c.ensures c.in_default.is _ _ (one_leaf _ d.few _ c.wide-l.ensures.0 c.if-l-le1.true).0
-    (leaves_alone (files a.numbers.now a.handles.now) (files_sized a.numbers.now a.handles.now d.handled) d.few
-    a.out.now _ c.wide-l.ensures.0 _ c.if-l-le1.true c.leaves.ensures)
+pub split_at_mut-leaves-requires : goal.split_at_mut-leaves-requires
+split_at_mut-leaves-requires c =
+    let t = rows_fit _ _ _ _ c.admit.ensures c.in_ok-admit.was _ _ _ c.wide-l.ensures c.over-f.ensures c.over-v.ensures in omega arith
 
-pub inner-requires : goal.inner-requires
-inner-requires c =
-    let a = c.args in
-    fours_ask _ _ _ (admitted_by a.numbers.now a.handles.now a.out.now _ c.admit-c.ensures c.in_default.is) _
-    c.wide-l.ensures.0 c.if-l-le1.false _ c.wide-f.ensures.0 _ c.leaves.auto.out
+pub split_at_mut-fours-requires : goal.split_at_mut-fours-requires
+split_at_mut-fours-requires c =
+    let t = rows_fit _ _ _ _ c.admit.ensures c.in_ok-admit.was _ _ _ c.wide-l.ensures c.over-f.ensures c.over-v.ensures in omega arith
 
-pub returns-then-f-le1 : goal.returns-then-f-le1
-unfolding files
-returns-then-f-le1 c =
-    let a = c.args in
-    let d = admitted_by a.numbers.now a.handles.now a.out.now _ c.admit-c.ensures c.in_default.is in
-    writes_all _ _ _ _ c.admit-c.ensures c.in_default.is _ _
-    (one_four _ d.few _ c.wide-l.ensures.0 c.if-l-le1.false _ c.wide-f.ensures.0 c.if-f-le1.true).0
-    (fours_last (files a.numbers.now a.handles.now) (files_sized a.numbers.now a.handles.now d.handled) d.few
-    a.out.now _ c.wide-l.ensures.0 c.if-l-le1.false _ c.leaves.ensures _ c.wide-f.ensures.0 _ c.if-f-le1.true c.inner.ensures)
+pub split_at_mut-fives-requires : goal.split_at_mut-fives-requires
+split_at_mut-fives-requires c =
+    let t = rows_fit _ _ _ _ c.admit.ensures c.in_ok-admit.was _ _ _ c.wide-l.ensures c.over-f.ensures c.over-v.ensures in omega arith
 
-pub inner-requires-2 : goal.inner-requires-2
-inner-requires-2 c =
-    let a = c.args in
-    fives_ask _ _ _ (admitted_by a.numbers.now a.handles.now a.out.now _ c.admit-c.ensures c.in_default.is) _
-    c.wide-l.ensures.0 c.if-l-le1.false _ c.wide-f.ensures.0 c.if-f-le1.false _
-    (c.inner.auto.out ∙ c.leaves.auto.out)
+pub leaves-requires-clause-handles_len : goal.leaves-requires-clause-handles_len
+leaves-requires-clause-handles_len c = (admitted_by _ _ _ _ c.admit.ensures c.in_ok-admit.was).handled
 
 pub returns : goal.returns
 unfolding files
 returns c =
     let a = c.args in
-    let d = admitted_by a.numbers.now a.handles.now a.out.now _ c.admit-c.ensures c.in_default.is in
-    writes_all _ _ _ _ c.admit-c.ensures c.in_default.is _ _
-    (one_five _ d.few _ c.wide-l.ensures.0 c.if-l-le1.false _ c.wide-f.ensures.0 c.if-f-le1.false).0
-    (fives_last (files a.numbers.now a.handles.now) (files_sized a.numbers.now a.handles.now d.handled) d.few
-    a.out.now _ c.wide-l.ensures.0 c.if-l-le1.false _ c.leaves.ensures _ c.wide-f.ensures.0 _ _ c.if-f-le1.false
-    c.inner.ensures c.inner-2.ensures)
+    let handled = (admitted_by _ _ _ _ c.admit.ensures c.in_ok-admit.was).handled in
+    let T = files a.numbers.now a.handles.now in
+    let f = c.over-f.result in
+    let v = c.over-v.result in
+    let m = parts 642 c.split_at_mut-fours.result.0.now in
+    let n = parts 642 c.split_at_mut-fives.result.0.now in
+    let em : m ≡ f = omega arith in
+    let en : n ≡ v = omega arith in
+    writes_all _ _ _ _ c.admit.ensures c.in_ok-admit.was _ _ _ c.wide-l.ensures c.over-f.ensures c.over-v.ensures _
+    (whole_is T (files_sized a.numbers.now a.handles.now handled) a.out.now _ f v c.wide-l.ensures c.over-f.ensures c.over-v.ensures
+    _ _ _ _ m n (c.leaves.ensures ∙ ap (row 3 T 0) (sym c.wide-l.ensures)) em c.inner.ensures en c.inner-2.ensures
+    (c.split_at_mut-fives.ensures.back ∙
+    ap (drop (642 * v)) (c.split_at_mut-fours.ensures.back ∙ ap (drop (642 * f)) c.split_at_mut-leaves.ensures.back)))

@@ -5,9 +5,6 @@ use Rattle.search.proofs.Place.{first_at, first_none}
 use Rattle.search.proofs.Search.{span_more}
 use Rattle.client.proofs.forms.first_misplaced.Goals as goal
 
-pub loop-i-init : goal.loop-i-init
-loop-i-init c = λ m h l. absurd (omega arith)
-
 pub returns-then-not-well_placed : goal.returns-then-not-well_placed
 returns-then-not-well_placed c =
     sym

@@ -1,6 +1,4 @@
 -- The two tests, each over all that it looks at before the next.
-use mathlib.Core.Path.{ap, ◌∙◌}
-use Rattle.search.specs.Search.{first}
 use Rattle.client.proofs.Placed.{misplaced, unmarked, all_formed}
 use Rattle.client.proofs.forms.forms.Goals as goal
 
@@ -9,10 +7,8 @@ returns-in-Some c = λ user held t. misplaced _ user held _ _ t _ c.first_mispla
 
 pub returns-in-Some-first_unmarked : goal.returns-in-Some-first_unmarked
 returns-in-Some-first_unmarked c =
-    λ user held t. unmarked _ user held _ _ t _ c.first_misplaced.ensures c.in_default.is _
-    (c.first_unmarked.ensures ∙ ap (first _ 0) c.requires) c.in-Some-first_unmarked.is
+    λ user held t. unmarked _ user held _ _ t _ c.first_misplaced.ensures c.in_default.is _ c.requires c.first_unmarked.ensures c.in-Some-first_unmarked.is
 
 pub returns : goal.returns
 returns c =
-    λ user held t. all_formed _ user held _ _ t _ c.first_misplaced.ensures c.in_default.is _
-    (c.first_unmarked.ensures ∙ ap (first _ 0) c.requires) c.in_default-first_unmarked.is
+    λ user held t. all_formed _ user held _ _ t _ c.first_misplaced.ensures c.in_default.is _ c.requires c.first_unmarked.ensures c.in_default-first_unmarked.is

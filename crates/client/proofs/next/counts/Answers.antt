@@ -10,10 +10,6 @@ use Rattle.client.proofs.next.counts.Goals as goal
 pub loop-i-init : goal.loop-i-init
 loop-i-init c = (refl, rw c.len-i.ensures.count (none_passed c.args.list.now (omega arith)))
 
-pub bounds-counts-v : goal.bounds-counts-v
-bounds-counts-v c =
-    omega (arith, c.owner-v.ensures, c.requires.by_index (c.loop-i.i - 1) (omega arith))
-
 pub loop-i-preserved : goal.loop-i-preserved
 loop-i-preserved c =
     let list = c.args.list.now in

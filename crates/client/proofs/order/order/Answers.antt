@@ -22,14 +22,6 @@ pub returns-then-own : goal.returns-then-own
 returns-then-own c =
     last_version _ _ _ _ _ c.current-listed.ensures _ c.count-own.ensures c.if-not-listed.false (omega arith)
 
-pub counts-counts-requires : goal.counts-counts-requires
-counts-counts-requires c =
-    let p = c.requires in record {
-      user_bound = p.user_bound;
-      user_bound_2 = omega (arith, c.count-own.ensures, c.count-own.type_inv);
-      by_index = p.by_index;
-    }
-
 pub returns-in_err-pairs : goal.returns-in_err-pairs
 returns-in_err-pairs c =
     tells_refused _ _

@@ -9,12 +9,6 @@ use Rattle.version.specs.declared.Version.{Version}
 use Rattle.client.proofs.Apart.{apart, together, compared, compared_new}
 use Rattle.client.proofs.order.pairs.Goals as goal
 
-pub loop-i-init : goal.loop-i-init
-loop-i-init c = λ new e m h. absurd (omega arith)
-
-pub loop-j-init : goal.loop-j-init
-loop-j-init c = λ new m h l. absurd (omega arith)
-
 pub returns-then-not-comparable : goal.returns-then-not-comparable
 returns-then-not-comparable c =
     let counts = λ (i : ℕ) (h : i < records c.args.list.now). ap (λ (v : Version). v.counts) (c.read_list.ensures i h) in

@@ -10,13 +10,13 @@ returns-then-kind-ne-LEAF c =
     let a = c.args in
     no_leaf a.b.now a.number (λ e. c.if-kind-ne-LEAF.true (c.kind.ensures ∙ e))
 
-pub returns-then-used-j : goal.returns-then-used-j
-returns-then-used-j c =
+pub returns-in_default : goal.returns-in_default
+returns-in_default c =
     let a = c.args in
-    no_slot a.b.now a.number (sym c.kind.ensures ∙ c.if-kind-ne-LEAF.false) _ _ c.slot_of-j.ensures c.used.ensures c.if-used-j.true
+    no_slot a.b.now a.number (sym c.kind.ensures ∙ c.if-kind-ne-LEAF.false) _ c.slot_of.ensures c.in_default.is
 
 pub returns : goal.returns
 returns c =
     let a = c.args in
-    in_slot a.b.now a.number (sym c.kind.ensures ∙ c.if-kind-ne-LEAF.false) _ _ c.slot_of-j.ensures c.used.ensures _ _
-    c.if-used-j.false c.value-handle.ensures (c.copy.ensures.copied (omega arith))
+    in_slot a.b.now a.number (sym c.kind.ensures ∙ c.if-kind-ne-LEAF.false) _ c.slot_of.ensures _ _
+    c.in-Some.is c.value-handle.ensures (c.copy.ensures.copied (omega arith))

@@ -8,13 +8,9 @@ use Rattle.many.proofs.walk.has_hash.Goals as goal
 pub returns-then-equal : goal.returns-then-equal
 returns-then-equal c =
     let i = c.args.i in
-    let k = c.args.known.at in
+    let k = c.in-Some.k.at in
     let e : 642 * i + 642 - 642 * i ≡ 642 = omega arith in
     let f : 642 * k + 642 - 642 * k ≡ 642 = omega arith in
     let s = rw (e, f) at (sym c.equal.ensures ∙ c.if-equal.true) in
-    c.equal-then-equal.ensures ∙ known_hash c.args.paths.now i c.requires.0 c.args.known c.requires.1 c.if-k-i.true s _
-
-pub returns : goal.returns
-returns c =
-    let i = c.args.i in
-    let e : 642 * i + 642 - 642 * i ≡ 642 = omega arith in rw e at c.is_hash.ensures
+    let w = rw c.in-Some.is at c.requires.1 in
+    c.equal-then-equal.ensures ∙ known_hash c.args.paths.now i c.requires.0 c.in-Some.k w s _

@@ -1,7 +1,7 @@
 -- Each block is the last one consulted at its depth, or it is hashed; the lookup ends at it or goes on along the slot that it names, and ends with 9
 -- where no block is left.
 -- The invariant: the lookup from block d on, to which the link leads, is that of the whole path; and all that is known holds.
-use Prim.Native.Nat.{◌≤◌, ◌-◌}
+use Prim.Native.Nat.{◌-◌}
 use mathlib.Core.Path.{◌≡◌}
 use lib.ListN.{length}
 use Rattle.itable.specs.Lookup.{consult}
@@ -10,8 +10,5 @@ use Rattle.many.specs.Internal.Walk.{path_from}
 use Rattle.many.proofs.walk.walk.Given as goal
 
 abbrev pub invariant-loop-d : goal.invariant-loop-d
-invariant-loop-d l = (l.d ≤ l.n) × (length l.known ≡ 3) × AllKnown l.paths l.known ×
+invariant-loop-d l = (length l.known ≡ 3) × AllKnown l.paths l.known ×
     (consult (path_from l.paths l.first l.n) l.number (l.n - l.d) l.d l.link ≡ consult (path_from l.paths l.first l.n) l.number l.n 0 l.initial.link)
-
-abbrev pub decreases-loop-d : goal.decreases-loop-d
-decreases-loop-d l = l.n - l.d

@@ -6,9 +6,6 @@ use Rattle.layout.proofs.Parts.{part_past}
 use Rattle.protocol.specs.List.{record_at, entry}
 use Rattle.client.proofs.records.Records.entry.Goals as goal
 
-pub loop-i-init : goal.loop-i-init
-loop-i-init c = λ m h l. absurd (omega arith)
-
 pub returns-then-owner-user : goal.returns-then-owner-user
 unfolding entry
 returns-then-owner-user c =
