@@ -7,13 +7,14 @@ use native.Mathlib.Omega.{arith}
 use lib.Dec.{leb, eqb}
 use lib.ListN.{length}
 use borrow.Author.Tests.{leb-true, eqb-true, le-leb, lt-leb, eq-eqb, ne_eqb}
-use Rattle.search.specs.Search.{find, every}
-use Rattle.search.proofs.Search.{every_at, some_fails, none_fails}
+use Rattle.std.specs.Prelude.{Result, Ok, None, Some}
+use Rattle.search.specs.Search.{first}
+use Rattle.search.proofs.Search.{some_fails, none_fails}
+use Rattle.search.proofs.Place.{was_first, was_none}
 use Rattle.refusal.specs.Answer.{accepted, refused}
 use Rattle.refusal.specs.Order.{in_order, tried}
 use Rattle.refusal.specs.Refusal.{said}
-use Rattle.refusal.specs.declared.Check.{Check}
-use Rattle.refusal.specs.declared.Check.TheVariants.{Passed}
+use Rattle.refusal.specs.declared.Refusal.{Refusal}
 use Rattle.refusal.proofs.Order.{Passing, passed, unless_passed}
 use Rattle.store.specs.Place.{store_size, place, block_length}
 use Rattle.blockstore.specs.Internal.Stages.{admit_steps}
@@ -22,23 +23,18 @@ pub record Admitted (s : List ℕ) (u : ℕ) (fits : Bool) : Type 0 where
   pub user : u ≤ 15
   pub long : length s ≡ store_size
   pub fitting : fits ≡ true
-  pub within : (p : ℕ) → p < 64 → block_length (place s p) ≤ 8192
 
 module _ (s : List ℕ) (u : ℕ) (fits : Bool) where
   passing_admits : Passing (admit_steps s u fits) → Admitted s u fits
   unfolding admit_steps
   passing_admits w =
-      let fit : ℕ → Bool = λ p. leb (block_length (place s p)) 8192 in
       record {
         user = leb-true u 15 (unless_passed (leb u 15) 1 0 0 w.0);
         long = eqb-true (length s) store_size (unless_passed (eqb (length s) store_size) 2 0 0 w.1.0);
         fitting = unless_passed fits 2 0 0 w.1.1.0;
-        within = λ p l.
-            leb-true (block_length (place s p)) 8192
-            (every_at fit 0 64 (unless_passed (every fit 0 64) 3 _ 0 w.1.1.1.0) p (omega arith) (omega arith));
       }
 
-  pub admitted : (c : Check) → said c ≡ tried (admit_steps s u fits) → c ≡ Passed → Admitted s u fits
+  pub admitted : (c : Result Unit Refusal) → said c ≡ tried (admit_steps s u fits) → {v : Unit {0}} → c ≡ Ok v → Admitted s u fits
   admitted c e p = passing_admits (passed (admit_steps s u fits) (sym e ∙ ap said p)).0
 
 -- The answer of the admission, test by test.
@@ -57,15 +53,20 @@ module _ (s : List ℕ) (u : ℕ) (fits : Bool) where
       unfolding admit_steps in_order
       unfitting f = rw (le-leb u 15 h, eq-eqb (length s) store_size long, f)
 
-      module _ (f : fits ≡ true) (p : ℕ) (e : p ≡ find (λ q. not (leb (block_length (place s q)) 8192)) 0 64) where
-        pub unfit_place : p < 64 → tried (admit_steps s u fits) ≡ refused 3 p 0
-        unfolding admit_steps in_order
-        unfit_place l =
-            let t = some_fails (λ q. leb (block_length (place s q)) 8192) 64 p e (λ z. omega arith) in
-            rw (le-leb u 15 h, eq-eqb (length s) store_size long, f, t, sym e)
+      module _ (f : fits ≡ true) where
+        abbrev fit : ℕ → Bool
+        fit p = leb (block_length (place s p)) 8192
 
-        pub admits : 64 ≤ p → tried (admit_steps s u fits) ≡ accepted tt
+        pub unfit_place : {p : ℕ} → first (λ q. not (fit q)) 0 64 ≡ Some p → tried (admit_steps s u fits) ≡ refused 3 p 0
         unfolding admit_steps in_order
-        admits l =
-            let t = none_fails (λ q. leb (block_length (place s q)) 8192) 64 p e l in
+        unfit_place e =
+            let w = was_first (λ q. not (fit q)) 0 64 e in
+            let t = some_fails fit 64 _ (sym w.0) (λ z. omega (arith, w.1)) in
+            rw (le-leb u 15 h, eq-eqb (length s) store_size long, f, t, w.0)
+
+        pub admits : first (λ q. not (fit q)) 0 64 ≡ None → tried (admit_steps s u fits) ≡ accepted tt
+        unfolding admit_steps in_order
+        admits e =
+            let w = was_none (λ q. not (fit q)) 0 64 e in
+            let t = none_fails fit 64 _ (sym w) (omega arith) in
             rw (le-leb u 15 h, eq-eqb (length s) store_size long, f, t)

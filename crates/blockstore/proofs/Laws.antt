@@ -1,18 +1,17 @@
 -- What the calls' proofs cite: the counts of a place as bytes, its slice of the store, and a search that goes up place by place.
-use Prim.Native.Nat.{ℕ, ◌+◌, ◌-◌, ◌*◌, ◌/◌, ◌%◌, ◌≤◌, ◌<◌}
+use Prim.Native.Nat.{ℕ, min, ◌+◌, ◌-◌, ◌*◌, ◌/◌, ◌%◌, ◌≤◌, ◌<◌}
 use mathlib.Core.Bool.{Bool, true, false}
 use mathlib.Core.List.{List, ◌++◌}
 use mathlib.Core.Logic.{◌↔◌, ⊎_elim}
 use mathlib.Core.Path.{◌≡◌, sym, ap, ◌∙◌}
-use native.Mathlib.Decide.{ℕ_discrete}
+use native.Mathlib.Decide.{ℕ_discrete, dec_lt}
 use native.Mathlib.Omega.{arith}
-use lib.ListN.{length, get_or, take, drop, replicate, length-take}
-use lib.Seq.{take-length}
+use lib.ListN.{length, get_or, take, drop, replicate, length-drop, drop_of_length-le}
+use lib.Seq.{take-length, take_all}
 use borrow.Author.Tests.{eq-eqb, ne_eqb, lt-ltb, le-ltb}
-use Rattle.search.specs.Search.{find}
+use Rattle.std.specs.Prelude.{Ok}
 use Rattle.search.proofs.Bool.{not_both, bool_cases}
 use Rattle.search.proofs.First.{not_holding}
-use Rattle.search.proofs.Search.{find_first, find_last}
 use Rattle.layout.specs.Bytes.{two, bytes2, put_at}
 use Rattle.layout.specs.Strings.{zeros}
 use Rattle.layout.proofs.Zeros.{zeros_mean}
@@ -20,13 +19,11 @@ use Rattle.layout.proofs.Bytes.{two_part}
 use Rattle.refusal.specs.Answer.{Answer, accepted, refused}
 use Rattle.refusal.specs.Order.{in_order}
 use Rattle.refusal.specs.Result.{Gives}
-use Rattle.refusal.specs.declared.Check.TheVariants.{Passed}
 use Rattle.sha256.specs.Hash.{is_hash}
 use Rattle.sha256.proofs.Laws.{is_hash_means}
-use Rattle.store.specs.Place.{place_size, store_size, place, made, block_length, count, block_in, free, holds, first_free, with_block, with_place, recount}
+use Rattle.store.specs.Place.{place_size, store_size, place, made, count, block_in, free, holds, first_free, with_block, with_place, recount}
 use Rattle.store.specs.Calls.{make, unreferenced}
 use Rattle.store.specs.Meaning.{Free}
-use Rattle.store.proofs.Places.{place_length}
 use Rattle.store.proofs.Changed.{recount_put, sized_length, block_put}
 use Rattle.store.proofs.Lowest.{free_means}
 use Rattle.blockstore.specs.Internal.Stages.{counted_once, filled_free}
@@ -60,36 +57,38 @@ module _ (x : List ℕ) where
   pub free_bytes : zeros x 2 32 ≡ free x
   free_bytes = alike (zeros x 2 32) (free x) zeros_count (free_means x)
 
--- The slice of place p is its part of the store: what is read of it is read of the place.
-slice : (p : ℕ) → place_size * p + place_size - place_size * p ≡ place_size
-slice p = omega arith
+-- The slice of place p is its part of the store.
+pub part_there :
+    (s : List ℕ) (p : ℕ) → take (place_size * p + place_size - place_size * p) (drop (place_size * p) s) ≡ place s p
+part_there s p = let e : place_size * p + place_size - place_size * p ≡ place_size = omega arith in rw e
 
-pub of_place :
-    {A : Type 0} (s : List ℕ) (p : ℕ) (f : List ℕ → A) {r : A} →
-    r ≡ f (take (place_size * p + place_size - place_size * p) (drop (place_size * p) s)) → r ≡ f (place s p)
-of_place s p f e = e ∙ ap (λ n. f (take n (drop (place_size * p) s))) (slice p)
+-- A part that is cut off at the end of the bytes is what there is of it.
+module _ (x : List ℕ) (a n : ℕ) where
+  cut_start : drop (min a (length x)) x ≡ drop a x
+  cut_start =
+      elim (dec_lt a (length x)) [
+        | yes l ↦ let e : min a (length x) ≡ a = omega arith in rw e
+        | no l ↦
+            let e : min a (length x) ≡ length x = omega arith in
+            rw (e, drop_of_length-le x {i = length x} (omega arith), drop_of_length-le x {i = a} (omega arith))
+      ]
 
-pub place_fits :
-    (s : List ℕ) (p : ℕ) → length s ≡ store_size → p < 64 → ((q : ℕ) → q < 64 → block_length (place s q) ≤ 8192) →
-    (length (take (place_size * p + place_size - place_size * p) (drop (place_size * p) s)) ≡ place_size) ×
-    (block_length (take (place_size * p + place_size - place_size * p) (drop (place_size * p) s)) ≤ 8192)
-place_fits s p long l fits = rw (slice p) (place_length s long p l, fits p l)
+  cut_end : take (min (a + n) (length x) - min a (length x)) (drop a x) ≡ take n (drop a x)
+  cut_end =
+      let l = length-drop a x in
+      elim (dec_lt (a + n) (length x)) [
+        | yes h ↦ let e : min (a + n) (length x) - min a (length x) ≡ n = omega arith in rw e
+        | no h ↦ take_all _ (drop a x) (omega (arith, l)) ∙ sym (take_all n (drop a x) (omega (arith, l)))
+      ]
 
--- A search goes up place by place: it stops at the first at which the test holds, or behind the last.
-module _ (t : ℕ → Bool) where
-  pub stops : (p : ℕ) → p < 64 → ((j : ℕ) → 0 ≤ j → j < p → t j ≡ false) → t p ≡ true → p ≡ find t 0 64
-  stops p l below here = sym (find_first t 64 p l below here)
-
-  pub ends : (p : ℕ) → 64 ≤ p → p ≤ 64 → ((j : ℕ) → 0 ≤ j → j < p → t j ≡ false) → p ≡ find t 0 64
-  ends p h l below = let e : p ≡ 64 = omega arith in e ∙ sym (find_last t 64 (λ j a b. below j a (omega arith)))
+  pub cut : (i j : ℕ) → i ≡ min a (length x) → j ≡ min (a + n) (length x) → take (j - i) (drop i x) ≡ take n (drop a x)
+  cut i j ei ej = rw (ei, ej, cut_start) cut_end
 
 -- The block of a place, hashed where somebody counts it.
 pub block_hashed :
-    (x hash b : List ℕ) (r : Bool) → b ≡ block_in x → block_length x ≤ 8192 → free x ≡ false → r ≡ is_hash b hash → r ≡ holds x hash
+    (x hash b : List ℕ) (r : Bool) → b ≡ block_in x → length b < 65536 → free x ≡ false → r ≡ is_hash b hash → r ≡ holds x hash
 unfolding holds
-block_hashed x hash b r e short n h =
-    let l : length b ≤ 65536 = rw e (omega (arith, length-take (block_length x) (drop 34 x))) in
-    h ∙ (is_hash_means b hash l ∙ rw (n, e))
+block_hashed x hash b r e short n h = h ∙ (is_hash_means b hash (omega arith) ∙ rw (n, e))
 
 -- A count of a place, where it stands in the store.
 pub count_there : (s : List ℕ) (p u : ℕ) → u < 16 → two s (place_size * p + 2 + 2 * u) ≡ count (place s p) u
@@ -114,7 +113,7 @@ pub front_copied : (b out t : List ℕ) → t ≡ take (length b) b ++ drop (len
 front_copied b out t e = e ∙ rw (take-length b)
 
 -- A call that leaves what is due.
-pub accepts : {A : Type 0} {due : Answer A} {before after a : A} → due ≡ accepted a → after ≡ a → Gives due before after Passed
+pub accepts : {A : Type 0} {due : Answer A} {before after a : A} → due ≡ accepted a → after ≡ a → Gives due before after (Ok tt)
 accepts d e = record { answers = rw (d, e); leaves = rw (d, e) }
 
 -- Making: refused, and where zeros are written from the first byte on.
@@ -131,7 +130,7 @@ module _ (s : List ℕ) where
   unfolding made
   zeros_made e = ap (λ (n : ℕ). replicate n 0) e
 
-  pub make_cleared : (t : List ℕ) → length s ≡ store_size → t ≡ take 0 s ++ replicate (length s - 0) 0 → Gives (make s) s t Passed
+  pub make_cleared : (t : List ℕ) → length s ≡ store_size → t ≡ take 0 s ++ replicate (length s - 0) 0 → Gives (make s) s t (Ok tt)
   make_cleared t long e = accepts (make_accepted long) (e ∙ zeros_made (omega arith))
 
 -- A user's count at place p, by what it is.
@@ -154,15 +153,16 @@ module _ (s : List ℕ) (p u : ℕ) where
   takes_one n = rw (ne_eqb (count (place s p) u) 0 n)
 
 -- A block for user u, by whether there is a free place.
-module _ (s : List ℕ) (u : ℕ) (b : List ℕ) (p : ℕ) (e : p ≡ first_free s) where
-  pub full_refused : p ≡ 64 → filled_free s u b ≡ refused 13 0 0
+module _ (s : List ℕ) (u : ℕ) (b : List ℕ) where
+  pub full_refused : first_free s ≡ 64 → filled_free s u b ≡ refused 13 0 0
   unfolding filled_free in_order
-  full_refused h = rw (le-ltb (first_free s) 64 (omega arith))
+  full_refused e = rw (le-ltb (first_free s) 64 (omega arith))
 
-  fills : p < 64 → filled_free s u b ≡ accepted (with_place s p (with_block (place s p) u b))
-  unfolding filled_free in_order
-  fills l = rw (lt-ltb (first_free s) 64 (omega arith), e)
+  module _ (p : ℕ) (e : first_free s ≡ p) where
+    fills : p < 64 → filled_free s u b ≡ accepted (with_place s p (with_block (place s p) u b))
+    unfolding filled_free in_order
+    fills l = rw (lt-ltb (first_free s) 64 (omega arith), e)
 
-  pub free_filled :
-      (t : List ℕ) → p < 64 → t ≡ with_place s p (with_block (place s p) u b) → Gives (filled_free s u b) s t Passed
-  free_filled t l h = accepts (fills l) h
+    pub free_filled :
+        (t : List ℕ) → p < 64 → t ≡ with_place s p (with_block (place s p) u b) → Gives (filled_free s u b) s t (Ok tt)
+    free_filled t l h = accepts (fills l) h

@@ -1,3 +1,4 @@
+pub mod Lowest
 pub mod Laws
 pub mod Admitted
 pub mod Due

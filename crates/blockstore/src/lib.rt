@@ -17,6 +17,7 @@ ghost use Rattle.store.specs.Calls.{make as make_of, store as store_of, retrieve
 ghost use Rattle.store.specs.Calls.{unreferenced, unreference as unreference_of, after_unreference};
 ghost use Rattle.blockstore.specs.Internal.Stages.{admit_steps, counted_once, filled_free};
 
+use place::Count;
 use refusal::Refusal;
 
 // The places of a store, the bytes of each, and of all.
@@ -30,9 +31,6 @@ const SIZE: usize = 526464;
 const BLOCK: usize = 8192;
 
 const HASH: usize = 32;
-
-// The last count there is.
-const LAST: u16 = 65535;
 
 // Makes an empty store of 526,464 lent bytes: all of them zero.
 pub fn make(store: &mut [u8]) -> Result<(), Refusal>
@@ -59,23 +57,21 @@ fn admit(store: &[u8], user: u8, fits: bool) -> Result<(), Refusal>
     if !fits {
         return Err(Refusal::Length(0));
     }
-    let p = places::first_unfit(store);
-    if p < PLACES {
-        return Err(Refusal::Malformed(p));
+    match places::first_unfit(store) {
+        Some(p) => Err(Refusal::Malformed(p)),
+        None => Ok(()),
     }
-    Ok(())
 }
 
-// One more of a user at place p, which holds the block.
-fn count_one(store: &mut [u8], p: usize, user: usize) -> Result<(), Refusal>
-    requires { (length store.old ≡ store_size) × (p < 64) × (user < 16) }
-    ensures { Gives (counted_once store.old p user) store.old store.new result }
+// One more of a user's at a place that holds the block.
+fn count_one(store: &mut [u8], own: Count) -> Result<(), Refusal>
+    requires { length store.old ≡ store_size }
+    ensures { Gives (counted_once store.old own.p own.user) store.old store.new result }
 {
-    let n = place::count_at(store, p, user);
-    if n == LAST {
+    let Some(more) = own.read(store).checked_add(1) else {
         return Err(Refusal::LastReference);
-    }
-    place::recount_at(store, p, user, n + 1);
+    };
+    own.write(store, more);
     Ok(())
 }
 
@@ -84,17 +80,16 @@ fn fill_free(store: &mut [u8], user: usize, block: &[u8]) -> Result<(), Refusal>
     requires { (length store.old ≡ store_size) × (user < 16) × (length block.now ≤ 8192) }
     ensures { Gives (filled_free store.old user block.now) store.old store.new result }
 {
-    let p = places::first_free(store);
-    if p == PLACES {
+    let Some(p) = places::first_free(store) else {
         return Err(Refusal::NoPlace);
-    }
+    };
     let at = PLACE * p;
     place::put(
         store,
         at + place::LENGTH,
         &layout::u16_bytes(block.len() as u16),
     );
-    place::recount_at(store, p, user, 1);
+    Count { p, user }.write(store, 1);
     place::put(store, at + place::BYTES, block);
     Ok(())
 }
@@ -106,12 +101,18 @@ pub fn store(store: &mut [u8], user: u8, block: &[u8]) -> Result<(), Refusal>
 {
     admit(store, user, block.len() <= BLOCK)?;
     let mut hash = [0u8; 32];
-    sha256::sha256(block, &mut hash);
-    let p = places::place_of(store, &hash);
-    if p < PLACES {
-        return count_one(store, p, user as usize);
+    // No block of this length is refused.
+    let _ = sha256::sha256(block, &mut hash);
+    match places::place_of(store, &hash) {
+        Some(p) => count_one(
+            store,
+            Count {
+                p,
+                user: user as usize,
+            },
+        ),
+        None => fill_free(store, user as usize, block),
     }
-    fill_free(store, user as usize, block)
 }
 
 // Copies the block of a hash to the front of `out`, and keeps the bytes after it. Gives its length.
@@ -122,29 +123,26 @@ pub fn retrieve(store: &[u8], hash: &[u8], out: &mut [u8]) -> Result<usize, Refu
     ensures leaves { out.new ≡ left (retrieve_into store.now hash.now out.old) out.old }
 {
     admit(store, 0, hash.len() == HASH)?;
-    let p = places::place_of(store, hash);
-    if p == PLACES {
+    let Some(p) = places::place_of(store, hash) else {
         return Err(Refusal::NotHeld);
-    }
-    let at = PLACE * p;
-    let block = place::block(&store[at..at + PLACE]);
+    };
+    let block = place::block(place::at(store, p));
     if out.len() < block.len() {
         return Err(Refusal::NoRoom);
     }
     Ok(layout::copy(block, out))
 }
 
-// Takes one from a user's count at place p, or does nothing at zero. Gives how many it took.
-fn uncount_one(store: &mut [u8], p: usize, user: usize) -> usize
-    requires { (length store.old ≡ store_size) × (p < 64) × (user < 16) }
-    ensures took { result ≡ (unreferenced store.old p user).took }
-    ensures after { store.new ≡ (unreferenced store.old p user).after }
+// Takes one from a user's count, or does nothing at zero. Gives how many it took.
+fn uncount_one(store: &mut [u8], own: Count) -> usize
+    requires { length store.old ≡ store_size }
+    ensures took { result ≡ (unreferenced store.old own.p own.user).took }
+    ensures after { store.new ≡ (unreferenced store.old own.p own.user).after }
 {
-    let n = place::count_at(store, p, user);
-    if n == 0 {
+    let Some(less) = own.read(store).checked_sub(1) else {
         return 0;
-    }
-    place::recount_at(store, p, user, n - 1);
+    };
+    own.write(store, less);
     1
 }
 
@@ -155,9 +153,14 @@ pub fn unreference(store: &mut [u8], user: u8, hash: &[u8]) -> Result<usize, Ref
     ensures leaves { store.new ≡ left (after_unreference store.old user hash.now) store.old }
 {
     admit(store, user, hash.len() == HASH)?;
-    let p = places::place_of(store, hash);
-    if p == PLACES {
+    let Some(p) = places::place_of(store, hash) else {
         return Err(Refusal::NotHeld);
-    }
-    Ok(uncount_one(store, p, user as usize))
+    };
+    Ok(uncount_one(
+        store,
+        Count {
+            p,
+            user: user as usize,
+        },
+    ))
 }

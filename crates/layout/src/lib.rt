@@ -137,7 +137,7 @@ pub fn zero_between(b: &[u8], from: usize, to: usize) -> bool
 pub fn clear(from: usize, out: &mut [u8])
     ensures { out.new ≡ take from out.old ++ replicate (length out.old - from) 0 }
 {
-    for i in from..out.len() {
-        out[i] = 0;
+    if from < out.len() {
+        out[from..].fill(0);
     }
 }

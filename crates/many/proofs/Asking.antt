@@ -1,9 +1,11 @@
 -- All questions in their turn: the answers are the entries where every lookup is accepted, and otherwise the first refusal.
 use Prim.Native.Nat.{ℕ, ◌+◌, ◌-◌, ◌*◌, ◌≤◌, ◌<◌}
 use mathlib.Core.List.{List}
-use mathlib.Core.Path.{◌≡◌, sym, ap, ◌∙◌}
+use mathlib.Core.Path.{◌≡◌, refl, sym, ap, ◌∙◌}
 use native.Mathlib.Omega.{arith}
 use lib.ListN.{length, get_or, take}
+use Rattle.std.specs.Result.{MatchResult, IsErrAnd}
+use Rattle.std.proofs.lemmas.Result.{err_from_is_err_and}
 use Rattle.layout.specs.Bytes.{part}
 use Rattle.refusal.specs.Answer.{Answer, accepted}
 use Rattle.refusal.specs.Refusal.{refusal, checked}
@@ -18,6 +20,7 @@ use Rattle.itable.proofs.LookupMeans.{lookup_means}
 use Rattle.itable.proofs.Many.{total_front, path_at_long, all_accepted, first_refused}
 use Rattle.many.specs.Internal.Judged.{entry_to, Judged}
 use Rattle.many.specs.Internal.Walk.{path_from, Says}
+use Rattle.many.specs.declared.AtQuestion.{AtQuestion}
 use Rattle.many.specs.declared.Known.{Known}
 
 -- The path of question q lies within the bytes.
@@ -25,6 +28,22 @@ pub within :
     (counts paths : List ℕ) (q first n : ℕ) → size * total counts ≡ length paths → first ≡ total (take q counts) → n ≡ get_or counts q 0 →
     size * (first + n) ≤ length paths
 within counts paths q first n filled f m = omega (arith, total_front counts q)
+
+-- `map_err`: a refusal is named by what each call of its closure gives, and what passed has passed.
+module _ (P : Refusal → AtQuestion → Type 0) where
+  pub told_at :
+      (x : Result Unit Refusal) (y : Result Unit AtQuestion) → MatchResult x (λ u. y ≡ Ok u) (λ r. IsErrAnd y (λ e. P r e)) →
+      {e : AtQuestion} → y ≡ Err e → (r : Refusal) × (x ≡ Err r) × P r e
+  told_at (Ok u) y m w = cc
+  told_at (Err r) (Ok u) m w = absurd m
+  told_at (Err r) (Err e) m {e = f} w = let z : e ≡ f = cc in (r, refl, rw z at m)
+
+  pub told_passed :
+      (x : Result Unit Refusal) (y : Result Unit AtQuestion) → MatchResult x (λ u. y ≡ Ok u) (λ r. IsErrAnd y (λ e. P r e)) →
+      {u : Unit {0}} → y ≡ Ok u → x ≡ Ok u
+  told_passed (Ok u) y m w = cc
+  told_passed (Err r) (Ok u) m w = absurd m
+  told_passed (Err r) (Err e) m w = cc
 
 module _ (handle numbers counts paths : List ℕ) where
   -- The question q is asked with its own number and path.
@@ -68,3 +87,9 @@ module _ (handle numbers counts paths : List ℕ) where
             (e ∙ w.3 Entry));
         counted = λ z. cc;
       }
+
+  -- The same, as `?` hands it on.
+  pub hands_on :
+      (q : ℕ) {r : Refusal} {e : AtQuestion} → q < length numbers → AcceptedBefore q → refusal r ≡ single handle numbers counts paths q →
+      e ≡ record { question = q; refusal = r } → (x : Result Unit AtQuestion) → IsErrAnd x (λ f. f ≡ e) → Judged handle numbers counts paths x
+  hands_on q l h s w x k = let p = err_from_is_err_and x k in rw (p.1, p.2, w) (refused_at q l h (sym s))

@@ -78,12 +78,10 @@ fn judge(handle: &[u8], numbers: &[u64], counts: &[u8], paths: &[u8]) -> Result<
     let mut first = 0;
     for (q, number) in numbers.iter().enumerate() {
         let n = usize::from(counts[q]);
-        if let Err(refusal) = walk::ask(handle, *number, paths, first, n, &mut known) {
-            return Err(AtQuestion {
-                question: q,
-                refusal,
-            });
-        }
+        walk::ask(handle, *number, paths, first, n, &mut known).map_err(|refusal| AtQuestion {
+            question: q,
+            refusal,
+        })?;
         first += n;
     }
     Ok(())

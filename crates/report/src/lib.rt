@@ -8,17 +8,38 @@
 mod lines;
 mod text;
 
-ghost use Rattle.std.specs.Prelude.{◌≤◌, ◌≡◌, length};
+ghost use Rattle.std.specs.Prelude.{ℕ, List, ◌≤◌, ◌≡◌, length};
+ghost use Rattle.input.specs.Form.{users, user};
+ghost use Rattle.input.specs.Report.{judgement, Reports};
 ghost use Rattle.refusal.specs.Result.{left};
 ghost use Rattle.report.specs.Printed.{printed};
 ghost use Rattle.refusal.specs.Refusal.{said};
 ghost use Rattle.report.specs.Print.{printed_given, printing};
 
 use arrayvec::ArrayString;
+use input::Report;
 use refusal::Refusal;
 
 // The bytes that are enough for any output.
 pub const MOST: usize = 393;
+
+// Writes the lines of a report to the front of `out`. It is a call of its own, and so is the judging, so that the text
+// takes no room on the stack beside what is judged.
+#[inline(never)]
+fn write(report: &Report, out: &mut [u8]) -> Result<usize, Refusal>
+    ensures { (input : List ℕ) → Reports (judgement input) (users input) (user input) report.now →
+        (said result ≡ printed_given input (length out.old))
+        × (out.new ≡ left (printing input out.old) out.old) × (length (printed input) ≤ 393) }
+{
+    let mut text = ArrayString::new();
+    lines::report(report, &mut text);
+    let n = text.len();
+    if out.len() < n {
+        return Err(Refusal::NoRoom);
+    }
+    layout::copy(text.as_str().as_bytes(), out);
+    Ok(n)
+}
 
 // Writes what is said of the input to the front of `out`, and keeps the bytes after it. Refused
 // where `out` is too short for it, and then all of `out` is kept; 393 bytes are enough for any input.
@@ -29,13 +50,5 @@ pub fn print(input: &[u8], out: &mut [u8]) -> Result<usize, Refusal>
     ensures leaves { out.new ≡ left (printing input.now out.old) out.old }
     ensures short { length (printed input.now) ≤ 393 }
 {
-    let report = input::judge(input);
-    let mut text = ArrayString::new();
-    lines::report(&report, &mut text);
-    let n = text.len();
-    if out.len() < n {
-        return Err(Refusal::NoRoom);
-    }
-    layout::copy(text.as_str().as_bytes(), out);
-    Ok(n)
+    write(&input::judge(input), out)
 }

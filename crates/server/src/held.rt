@@ -1,7 +1,7 @@
 // The server's list with its records lent, and what is held of one user: the record in that user's place.
 ghost use Rattle.std.specs.Prelude.{◌≡◌, ◌<◌, ◌≤◌, length};
 ghost use Rattle.protocol.specs.declared.Server.{Server};
-ghost use Rattle.protocol.specs.Version.{size, count as count_of};
+ghost use Rattle.protocol.specs.Version.{size};
 ghost use Rattle.protocol.specs.Server.{slot as slot_of, held as held_of};
 
 use std::marker::Model;

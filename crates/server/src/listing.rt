@@ -1,6 +1,5 @@
 // The held records end to end: their length, and their bytes.
-ghost use Rattle.std.specs.Prelude.{◌≡◌, ◌≤◌, ◌*◌, ◌++◌, length, drop};
-ghost use Rattle.protocol.specs.Version.{size};
+ghost use Rattle.std.specs.Prelude.{◌≡◌, ◌≤◌, ◌++◌, length, drop};
 ghost use Rattle.protocol.specs.Server.{all_held};
 
 use crate::held::Lent;

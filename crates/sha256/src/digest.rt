@@ -15,6 +15,7 @@ pub(crate) fn store(out: &mut [u8], i: usize, x: u32)
 }
 
 // Writes the eight words of a hash value.
+// Kept: eight lines; a loop is no plainer, as its words would have to stand in an array first: `[s.a, s.b, ..]` and `4 * i`.
 pub(crate) fn write(out: &mut [u8], s: State)
     requires { length out.old ≡ 32 }
     ensures { out.new ≡ bytes_of s }

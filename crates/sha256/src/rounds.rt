@@ -1,9 +1,8 @@
 // The sixty-four rounds of a block (FIPS 180-4, 6.2.2, steps 1 and 3). The schedule is kept in sixteen words: W t
 // stands at t % 16 until its round is done, and then W (t + 16) takes its place.
 //
-// The rounds are written out, each with its number, and sixteen of them stand in one function for each place from which
-// they start, which is called once: the compiler then makes one piece of all, in which every place is a literal, and no
-// copy of the table of constants is left.
+// Sixteen rounds stand in one function for each round from which they start, which is called once: the compiler then makes
+// one piece of all, in which every place is a literal, and no copy of the table of constants is left.
 ghost use Rattle.std.specs.Prelude.{◌≡◌, ◌+◌, ◌%◌, ◌<◌, ◌≤◌, length, slice_index};
 ghost use Rattle.sha256.specs.Sha256.{K, round_of};
 ghost use Rattle.sha256.specs.WordsTaken.{rolled};
@@ -68,6 +67,7 @@ fn turn(s: State, w: &mut Queue, t: usize) -> State
 }
 
 // The sixteen rounds from one on.
+// Kept: written out; tried as `for t in FROM..FROM + 16`, which LLVM leaves a loop here: 46 % more instructions, and a table.
 pub(crate) fn sixteen<const FROM: usize>(s: State, w: &mut Queue) -> State
     requires { FROM ≤ 48 }
     ensures takes { result ≡ rounds_over (queue_after w.old.words FROM) s FROM 16 }

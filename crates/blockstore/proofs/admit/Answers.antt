@@ -1,5 +1,5 @@
 -- Each test is the definition's, in its order.
-use mathlib.Core.Path.{sym}
+use mathlib.Core.Path.{sym, ◌∙◌}
 use Rattle.blockstore.proofs.Admitted.{no_user, other_length, unfitting, unfit_place, admits}
 use Rattle.blockstore.proofs.admit.Goals as goal
 
@@ -13,12 +13,11 @@ pub returns-then-not-fits : goal.returns-then-not-fits
 returns-then-not-fits c =
     sym (unfitting _ _ _ c.if-user-gt15.false c.if-store-ne-SIZE.false (c.if-not-fits.true))
 
-pub returns-then-p-lt-PLACES : goal.returns-then-p-lt-PLACES
-returns-then-p-lt-PLACES c =
+pub returns-in-Some : goal.returns-in-Some
+returns-in-Some c =
     sym
-    (unfit_place _ _ _ c.if-user-gt15.false c.if-store-ne-SIZE.false (c.if-not-fits.false) _ c.first_unfit-p.ensures
-    c.if-p-lt-PLACES.true)
+    (unfit_place _ _ _ c.if-user-gt15.false c.if-store-ne-SIZE.false (c.if-not-fits.false) (sym c.first_unfit.ensures ∙ c.in-Some.is))
 
-pub returns : goal.returns
-returns c =
-    sym (admits _ _ _ c.if-user-gt15.false c.if-store-ne-SIZE.false (c.if-not-fits.false) _ c.first_unfit-p.ensures c.if-p-lt-PLACES.false)
+pub returns-in-None : goal.returns-in-None
+returns-in-None c =
+    sym (admits _ _ _ c.if-user-gt15.false c.if-store-ne-SIZE.false (c.if-not-fits.false) (sym c.first_unfit.ensures ∙ c.in-None.is))

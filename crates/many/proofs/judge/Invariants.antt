@@ -8,4 +8,4 @@ use Rattle.many.proofs.Asking.{AcceptedBefore}
 use Rattle.many.proofs.judge.Given as goal
 
 abbrev pub invariant-loop-q : goal.invariant-loop-q
-invariant-loop-q l = (l.first ≡ total (take l.q l.counts)) × (length l.known ≡ 3) × AllKnown l.paths l.known × AcceptedBefore l.handle l.numbers l.counts l.paths l.q
+invariant-loop-q l = (l.first ≡ total (take l.q-counter l.counts)) × (length l.known ≡ 3) × AllKnown l.paths l.known × AcceptedBefore l.handle l.numbers l.counts l.paths l.q-counter

@@ -4,10 +4,11 @@ use Rattle.store.specs.Place.{holds}
 use Rattle.blockstore.proofs.Laws.{block_hashed}
 use Rattle.blockstore.proofs.place.holds.Goals as goal
 
-pub returns-then-is_free : goal.returns-then-is_free
-unfolding holds
-returns-then-is_free c = rw (sym c.is_free.ensures ∙ c.if-is_free.true)
+pub returns-then-not-is_free : goal.returns-then-not-is_free
+returns-then-not-is_free c =
+    let b = c.block in
+    block_hashed c.args.x.now _ _ _ b.ensures.lies b.ensures.short (sym c.is_free.ensures ∙ c.if-not-is_free.true) c.is_hash.ensures
 
-pub returns : goal.returns
-returns c =
-    block_hashed c.args.x.now _ _ _ c.block.ensures c.requires.1 (sym c.is_free.ensures ∙ c.if-is_free.false) c.is_hash.ensures
+pub returns-else-not-is_free : goal.returns-else-not-is_free
+unfolding holds
+returns-else-not-is_free c = rw (c.is_free.ensures, sym c.is_free.ensures ∙ c.if-not-is_free.false)
