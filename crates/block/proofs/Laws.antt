@@ -1,18 +1,26 @@
 -- The tests of one block, each by cases: what it says where the tests before it have failed or passed. The kind, the number of used slots and the
 -- numbers are as they were read.
 use Prim.Native.Nat.{ℕ, suc, ◌+◌, ◌-◌, ◌*◌, ◌≤◌, ◌<◌}
-use mathlib.Core.Bool.{true}
+use mathlib.Core.Bool.{true, false}
 use mathlib.Core.List.{List}
 use mathlib.Core.Path.{◌≡◌, sym, ap, ◌∙◌}
 use native.Mathlib.Numerals.{add-one}
 use native.Mathlib.Omega.{arith}
 use lib.Dec.{ltb}
-use borrow.Author.Tests.{eq-eqb, ne_eqb, le-leb, lt-leb}
+use borrow.Author.Tests.{eq-eqb, ne_eqb, le-leb, lt-leb, le-ltb, lt-ltb}
 use Rattle.layout.specs.Strings.{zeros}
 use Rattle.itable.specs.Lookup.{last_at_most}
 use Rattle.itable.proofs.BlockBound.{next_bounds, last_hands_down, last_tells}
 use Rattle.search.proofs.Search.{every_intro}
 use Rattle.itable.specs.Block.{used, number, ascending, unused_zero, below_bound, child_bound}
+
+-- Two numbers that stand next to each other, as they were read.
+module _ (b : List ℕ) (j : ℕ) (p : 1 ≤ j) {x y : ℕ} (ex : x ≡ number b (j - 1)) (ey : y ≡ number b j) where
+  pub read_above : y ≤ x → ltb (number b (j - 1)) (number b (j - 1 + 1)) ≡ false
+  read_above l = let e : j - 1 + 1 ≡ j = omega arith in rw e (le-ltb (number b (j - 1)) (number b j) (omega arith))
+
+  pub read_below : x < y → ltb (number b (j - 1)) (number b (j - 1 + 1)) ≡ true
+  read_below l = let e : j - 1 + 1 ≡ j = omega arith in rw e (lt-ltb (number b (j - 1)) (number b j) (omega arith))
 
 -- The bytes after the used slots.
 pub unused_is : (b : List ℕ) (n : ℕ) → n ≡ used b → zeros b (2 + 40 * n) (642 - (2 + 40 * n)) ≡ unused_zero b

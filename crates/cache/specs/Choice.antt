@@ -7,8 +7,12 @@ use Rattle.cache.specs.Choose.{Choice, from_reply, from_cache}
 use Rattle.cache.specs.declared.Source.{Source}
 use Rattle.cache.specs.declared.Source.TheVariants.{Reply, Cached}
 
+-- Where a part was found, as the definition's choice.
+abbrev pub choice : Source → Choice
+choice Reply = from_reply
+choice Cached = from_cache
+
 -- The part, or the paper's number and positions for the refusal.
 abbrev pub answer_of : Result Source Refusal → Answer Choice
-answer_of (Ok Reply) = accepted from_reply
-answer_of (Ok Cached) = accepted from_cache
+answer_of (Ok s) = accepted (choice s)
 answer_of (Err r) = refusal r

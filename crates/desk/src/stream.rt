@@ -10,18 +10,15 @@ pub(crate) fn read<R: Read>(input: &mut R, buf: &mut [u8]) -> usize
     ensures upper_bound { result ≤ length buf.old }
     ensures buf_len_unchanged { length buf.new ≡ length buf.old }
 {
-    let mut done = 0;
-    while done < buf.len() {
-        let rest = &mut buf[done..];
-        let Ok(more) = input.read(rest) else {
-            break;
-        };
-        if more == 0 {
-            break;
+    let len = buf.len();
+    let mut rest = buf;
+    while !rest.is_empty() {
+        match input.read(rest) {
+            Ok(more) if 0 < more => rest = &mut rest[more..],
+            _ => break,
         }
-        done += more;
     }
-    done
+    len - rest.len()
 }
 
 // Writes until all of `buf` is taken, or a write takes nothing or fails, and answers how many bytes
@@ -29,16 +26,12 @@ pub(crate) fn read<R: Read>(input: &mut R, buf: &mut [u8]) -> usize
 pub(crate) fn write<W: Write>(output: &mut W, buf: &[u8]) -> usize
     ensures { result ≤ length buf.now }
 {
-    let mut done = 0;
-    while done < buf.len() {
-        let rest = &buf[done..];
-        let Ok(more) = output.write(rest) else {
-            break;
-        };
-        if more == 0 {
-            break;
+    let mut rest = buf;
+    while !rest.is_empty() {
+        match output.write(rest) {
+            Ok(more) if 0 < more => rest = &rest[more..],
+            _ => break,
         }
-        done += more;
     }
-    done
+    buf.len() - rest.len()
 }

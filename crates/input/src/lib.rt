@@ -95,7 +95,6 @@ fn take_apart(sent: &[u8], marks: &mut ArrayVec<u8, 16>, list: &mut ArrayVec<u8,
     ensures marks { marks.new.items ≡ first_marks sent.now (parts 99 sent.now) }
     ensures list { list.new.items ≡ first_records sent.now (parts 99 sent.now) }
 {
-    // Kept: tried to find a law of `chunks_exact` for a `for`, the kit has only that of its runs; the index form is as short.
     for i in 0..sent.len() / MARKED {
         marks.push(sent[MARKED * i]);
         list.try_extend_from_slice(&sent[MARKED * i + 1..MARKED * i + MARKED])

@@ -1,9 +1,10 @@
 -- From one block of a path to the next: the lookup ends at a block, or goes on along the slot that it names.
 use Prim.Native.Nat.{ℕ, suc, ◌+◌, ◌-◌, ◌*◌, ◌≤◌, ◌<◌}
-use mathlib.Core.List.{List}
+use mathlib.Core.List.{List, ◌++◌}
 use mathlib.Core.Path.{◌≡◌, sym, ap, ◌∙◌}
 use native.Mathlib.Omega.{arith}
-use lib.ListN.{take, drop}
+use lib.ListN.{length, take, drop, length-append, length-drop}
+use lib.Seq.{take_at, drop_at, drop-drop}
 use Rattle.std.specs.Prelude.{Option, Result, Ok, Err}
 use Rattle.std.specs.Result.{IsErrAnd}
 use Rattle.refusal.specs.Answer.{Answer, refused}
@@ -23,16 +24,13 @@ module _ (path : List ℕ) (i n d : ℕ) (k : Link) {a : Answer Entry} (g : cons
   pub none_more : n ≤ d → d ≤ n → refused 9 n 0 ≡ a
   none_more h l = let e : n ≡ d = omega arith in ap (λ m. refused 9 m 0) e ∙ (sym (consult_none path i n d k h) ∙ g)
 
-  -- Block d, of m bytes.
-  module _ (h : d < n) (m : ℕ) (em : m ≡ size) {s : Result Step Refusal} (st : Consulted (take m (drop (size * d) path)) k i d s) where
-    abbrev block : List ℕ
-    block = take m (drop (size * d) path)
-
+  -- Block d.
+  module _ (h : d < n) (block : List ℕ) (eb : take size (drop (size * d) path) ≡ block) {s : Result Step Refusal} (st : Consulted block k i d s) where
     abbrev on : ℕ → Answer Entry
     on j = consult path i (n - d - 1) (suc d) (to_child k block j)
 
     next : a ≡ judged s block (n - d - 1) (suc d) on
-    next = let t = rw em at st in sym g ∙ (consult_next path i n d k h ∙ rw em (t.says (n - d - 1) _))
+    next = sym g ∙ (consult_next path i n d k h ∙ rw eb (st.says (n - d - 1) on))
 
     pub refuses : {r : Refusal} → s ≡ Err r → (x : Result (Option (List ℕ)) Refusal) → IsErrAnd x (λ e. e ≡ r) → answer x ≡ a
     refuses q x w = rw (returned w) (sym (next ∙ rw q))
@@ -48,3 +46,20 @@ module _ (path : List ℕ) (i n d : ℕ) (k : Link) {a : Answer Entry} (g : cons
         let x : n - (d + 1) ≡ n - d - 1 = omega arith in
         let y : d + 1 ≡ suc d = omega arith in
         rw (e, x, y) (sym (next ∙ rw (q, w)))
+
+-- A chunk of the path from block d on is that block, and what is left begins at the next.
+module _ (path b rest : List ℕ) (n d : ℕ) (l : length path ≡ size * n) (h : d ≤ n) (e : drop (size * d) path ≡ b ++ rest) (w : length b ≡ size) where
+  pub chunk_within : d < n
+  chunk_within = let m = ap length e ∙ length-append b rest in omega (arith, m, length-drop (size * d) path)
+
+  pub chunk_block : take size (drop (size * d) path) ≡ b
+  chunk_block = ap (take size) e ∙ take_at b rest size w
+
+  pub chunk_rest : rest ≡ drop (size * (d + 1)) path
+  chunk_rest =
+      let m : size * d + size ≡ size * (d + 1) = omega arith in
+      sym (drop_at b rest size w) ∙ (ap (drop size) (sym e) ∙ (drop-drop size (size * d) path ∙ ap (λ k. drop k path) m))
+
+-- Where less than a block is left, none is.
+pub chunk_none : (path rest : List ℕ) (n d : ℕ) → length path ≡ size * n → rest ≡ drop (size * d) path → length rest < size → n ≤ d
+chunk_none path rest n d l e h = let m = ap length e in omega (arith, m, length-drop (size * d) path)

@@ -55,6 +55,7 @@ fn ended(slot: Option<u8>, b: &[u8], left: usize, d: usize) -> Result<Option<[u8
     if 0 < left {
         return Err(Refusal::PathLength(d));
     }
+    // Kept: tried `slot.map(|j| block::value(b, j))`: what is inferred for that closure says nothing of its result.
     match slot {
         Some(j) => Ok(Some(block::value(b, j))),
         None => Ok(None),
@@ -67,9 +68,7 @@ fn walk(root: Link, number: u64, path: &[u8], n: usize) -> Result<Option<[u8; 32
     ensures { answer result ≡ consult path.now number n 0 root }
 {
     let mut link = root;
-    for d in 0..n {
-        let at = block::SIZE * d;
-        let b = &path[at..at + block::SIZE];
+    for (d, b) in path.chunks_exact(block::SIZE).enumerate() {
         match one_block(link, b, number, d)? {
             Step::Ends(slot) => return ended(slot, b, n - d - 1, d + 1),
             Step::Leads(j) => link = block::child(link, b, j),

@@ -41,7 +41,7 @@ struct Known {
 }
 
 // Whether this many bytes are the blocks of these counts. What is left is counted down, so that no
-// sum is too large.
+// sum is too large: with `sum` or `fold` one could be.
 fn fills(counts: &[u8], bytes: usize) -> bool
     ensures { result ≡ eqb (size * total counts.now) bytes }
 {
@@ -90,6 +90,7 @@ fn judge(handle: &[u8], numbers: &[u64], counts: &[u8], paths: &[u8]) -> Result<
 // Looks up the i-numbers in one call. `counts` has the number of blocks of each path, `paths` the
 // paths end to end, and `out` gets 33 bytes for each question: 1 and the handle, or zeros where the
 // i-number is absent. Where the call is refused nothing is written.
+// Kept: numbers and counts are two slices as two buffers of the C call are, and as `many` of itable/specs has them.
 pub fn lookup(
     handle: &[u8],
     numbers: &[u64],

@@ -6,7 +6,8 @@ use native.Mathlib.Omega.{arith}
 use lib.ListN.{length, take, drop, set, length-set, length-drop, drop_of_length-le}
 use lib.Seq.{length-take-le, take_all, take-length}
 use borrow.Author.Tests.{eq-eqb, ne_eqb}
-use Rattle.std.specs.Prelude.{Result, Ok, Err}
+use Rattle.std.specs.Prelude.{Result, Ok, Err, is_ok, true, false}
+use Rattle.search.proofs.Bool.{not_both}
 use Rattle.refusal.specs.Answer.{Answer, accepted, refused, and_then}
 use Rattle.refusal.specs.Order.{in_order}
 use Rattle.refusal.specs.Refusal.{checked}
@@ -27,6 +28,15 @@ module _ {A : Type 0} (b : List ℕ) (a : Answer A) where
   pub unsized : (length b ≡ 1569 → ⊥) → in_order (size_steps b) a ≡ refused 2 0 0
   unfolding in_order size_steps
   unsized h = rw (ne_eqb (length b) 1569 h)
+
+-- What a call answered, by the test for it.
+pub was_ok : (c : Result Unit Refusal) → is_ok c ≡ true → (u : Unit {0}) × (c ≡ Ok u)
+was_ok (Ok u) h = (u, refl)
+was_ok (Err r) h = absurd (not_both h refl)
+
+pub was_err : (c : Result Unit Refusal) → is_ok c ≡ false → (r : Refusal) × (c ≡ Err r)
+was_err (Ok u) h = absurd (not_both refl h)
+was_err (Err r) h = (r, refl)
 
 -- A list that is made, and one that is not, in bytes.
 module _ (N : ℕ) (b : List ℕ) {e s : Server} {c : Result Unit Refusal} (g : Gives (make N) e s c) (h : length b ≡ 1569) where

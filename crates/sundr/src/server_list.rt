@@ -20,11 +20,10 @@ pub fn sundr_server_make_at(users: u8, server: &mut [u8]) -> u64
         return refusal::refusal_word(Refusal::Length(0));
     }
     let made = server::make(users);
-    let check = made.check;
-    if let Ok(()) = check {
+    if made.check.is_ok() {
         server_bytes::write(made.server, server);
     }
-    refusal::answer_word(check)
+    refusal::answer_word(made.check)
 }
 
 // The records that the server's list in 1,569 lent bytes holds, to the front of a lent buffer.

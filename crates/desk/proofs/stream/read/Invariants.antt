@@ -1,9 +1,9 @@
--- The bytes that were read are no more than the buffer has room for. Each turn reads at least one.
-use Rattle.std.proofs.Common.{length, ◌-◌, ◌≤◌}
+-- What is left to fill is within the buffer. Each turn reads at least one byte.
+use Rattle.std.proofs.Common.{length, ◌≤◌}
 use Rattle.desk.proofs.stream.read.Given as goal
 
-abbrev pub invariant-loop-done : goal.invariant-loop-done
-invariant-loop-done g l = l.done ≤ length l.buf
+abbrev pub invariant-loop-input : goal.invariant-loop-input
+invariant-loop-input g l = length l.rest ≤ l.len
 
-abbrev pub decreases-loop-done : goal.decreases-loop-done
-decreases-loop-done g l = length l.initial.buf - l.done
+abbrev pub decreases-loop-input : goal.decreases-loop-input
+decreases-loop-input g l = length l.rest

@@ -1,9 +1,9 @@
--- The bytes that were taken are no more than the buffer has. Each turn takes at least one.
-use Rattle.std.proofs.Common.{length, ◌-◌, ◌≤◌}
+-- What is left to write is within the buffer. Each turn takes at least one byte.
+use Rattle.std.proofs.Common.{length, ◌≤◌}
 use Rattle.desk.proofs.stream.write.Given as goal
 
-abbrev pub invariant-loop-done : goal.invariant-loop-done
-invariant-loop-done g l = l.done ≤ length l.buf
+abbrev pub invariant-loop-output : goal.invariant-loop-output
+invariant-loop-output g l = length l.rest ≤ length l.buf
 
-abbrev pub decreases-loop-done : goal.decreases-loop-done
-decreases-loop-done g l = length l.buf - l.done
+abbrev pub decreases-loop-output : goal.decreases-loop-output
+decreases-loop-output g l = length l.rest

@@ -1,6 +1,7 @@
 -- Each refusal is told as it is, with nothing written; where the check gives counts they are put into the array, and what it wants sent again is
 -- copied into the buffer.
-use mathlib.Core.Path.{◌≡◌, refl, ◌∙◌}
+use Rattle.std.specs.Prelude.{Ok}
+use mathlib.Core.Path.{◌≡◌, refl, ap, ◌∙◌}
 use native.Mathlib.Omega.{arith}
 use lib.ListN.{length}
 use Rattle.layout.proofs.Copied.{copied_over}
@@ -27,10 +28,26 @@ returns-then-again-ne-SIZE c =
     record { answer = t.0; counts = t.1.0; again = t.1.1 }
 
 pub returns-in-Ok-Next : goal.returns-in-Ok-Next
-returns-in-Ok-Next c = ?
+returns-in-Ok-Next c =
+    let a = c.args in
+    let room : (length a.counts.now ≡ 16) × (length a.again.now ≡ size) = (omega arith, omega arith) in
+    let t = tells_next a.users a.user (length a.counts.now) (length a.again.now) a.file.now a.list.now a.marks.now room c.check.result c.check.ensures
+    a.counts.now a.again.now _ (c.in-Ok-Next.is ∙ ap Ok c.in-Ok-Next.field-0-is) refl c.put.ensures in
+    record { answer = t.0; counts = t.1.0; again = t.1.1 }
 
 pub returns-in-Ok-Again : goal.returns-in-Ok-Again
-returns-in-Ok-Again c = ?
+returns-in-Ok-Again c =
+    let a = c.args in
+    let room : (length a.counts.now ≡ 16) × (length a.again.now ≡ size) = (omega arith, omega arith) in
+    let l : length c.in-Ok-Again.bytes ≡ size = search rules in
+    let t = tells_again a.users a.user (length a.counts.now) (length a.again.now) a.file.now a.list.now a.marks.now room c.check.result c.check.ensures
+    a.counts.now a.again.now _ (c.in-Ok-Again.is ∙ ap Ok c.in-Ok-Again.field-0-is) refl (c.copy.ensures.copied (omega (arith, l)) ∙ copied_over _ _ (omega (arith, l))) in
+    record { answer = t.0; counts = t.1.0; again = t.1.1 }
 
 pub returns-in-Err : goal.returns-in-Err
-returns-in-Err c = ?
+returns-in-Err c =
+    let a = c.args in
+    let room : (length a.counts.now ≡ 16) × (length a.again.now ≡ size) = (omega arith, omega arith) in
+    let t = tells_refused a.users a.user (length a.counts.now) (length a.again.now) a.file.now a.list.now a.marks.now room c.check.result c.check.ensures
+    {counts = a.counts.now} {again = a.again.now} _ c.in-Err.is c.refusal_word-in-Err.ensures in
+    record { answer = t.0; counts = t.1.0; again = t.1.1 }

@@ -6,17 +6,11 @@ use Rattle.sundr.specs.Choose.{part_number, part_length}
 use Rattle.refusal.proofs.Words.{accepted_word, refused_word}
 use Rattle.sundr.proofs.choose.sundr_block_choose.Goals as goal
 
-pub returns-in-Reply : goal.returns-in-Reply
-returns-in-Reply c =
+pub returns-in-Ok : goal.returns-in-Ok
+returns-in-Ok c =
     let a = c.args in
-    accepted_word part_number (part_length a.reply.now a.cached.now) (sym c.choose-c.ensures ∙ ap answer_of c.in-Reply.is)
-    (rw (c.part-part.ensures.bytes, c.in-Reply.is) at c.word.ensures)
-
-pub returns-in-Cached : goal.returns-in-Cached
-returns-in-Cached c =
-    let a = c.args in
-    accepted_word part_number (part_length a.reply.now a.cached.now) (sym c.choose-c.ensures ∙ ap answer_of c.in-Cached.is)
-    (rw (c.part-part.ensures.bytes, c.in-Cached.is) at c.word-in-Cached.ensures)
+    accepted_word part_number (part_length a.reply.now a.cached.now) (sym c.choose-c.ensures ∙ ap answer_of c.in-Ok.is)
+    (rw (c.number.ensures, c.part-part.ensures.bytes, c.in-Ok.is) at c.word.ensures)
 
 pub returns-in-Err : goal.returns-in-Err
 returns-in-Err c =
