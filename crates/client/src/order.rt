@@ -81,19 +81,22 @@ fn pairs(list: &Records<'_>, next: [u32; 16]) -> Result<(), Refusal>
     let mut structures = [blank; 16];
     read_list(list, &mut structures);
     let n = list.len();
-    for i in 0..n {
-        let low = structures[i].counts;
-        for j in i + 1..n {
-            let high = structures[j].counts;
-            if !comparable(low, high) {
-                return Err(Refusal::Unordered(i, j));
+    // 01's form for the comparison of all pairs: a label is left at the first pair that is apart.
+    'pairs: {
+        for i in 0..n {
+            let low = structures[i].counts;
+            for j in i + 1..n {
+                let high = structures[j].counts;
+                if !comparable(low, high) {
+                    break 'pairs Err(Refusal::Unordered(i, j));
+                }
+            }
+            if !strictly_before(low, next) {
+                break 'pairs Err(Refusal::Unordered(i, n));
             }
         }
-        if !strictly_before(low, next) {
-            return Err(Refusal::Unordered(i, n));
-        }
+        Ok(())
     }
-    Ok(())
 }
 
 // The third stage: the counts of the next structure, or the bytes that are held, where these are to be sent again.

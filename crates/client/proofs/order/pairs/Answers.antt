@@ -46,6 +46,6 @@ loop-i-preserved c =
     (compared_new _ new _ _ _ (counts _ (omega arith)) _ _ (omega arith) e c.strictly_before.ensures ∙ c.if-not-strictly_before.false) m
     a (omega arith))
 
-pub returns : goal.returns
-returns c =
+pub returns-after-loop-i : goal.returns-after-loop-i
+returns-after-loop-i c =
     λ new e. together (ordered c.args.list.now new) _ (λ m h k a b. c.loop-i.invariant new e m (omega arith) k a (omega arith))

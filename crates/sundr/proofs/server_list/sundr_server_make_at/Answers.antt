@@ -16,7 +16,7 @@ pub returns : goal.returns
 returns c =
     let a = c.args in
     elim c.if-is_ok.branch [
-      then-is_ok w ↦
+      | then-is_ok w ↦
           let g = makes a.users a.server.now c.make-made.ensures (omega arith) (was_ok _ (sym c.is_ok.ensures.value ∙ w.if-is_ok.true)).1 in
           record { answer = gives_word g c.answer_word.ensures; buffer = w.server-is ∙ w.write.ensures ∙ g.leaves }
       | else-is_ok w ↦
