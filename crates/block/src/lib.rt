@@ -52,6 +52,8 @@ pub fn used(b: &[u8]) -> u8
 }
 
 // The number in slot j.
+// Kept: `number` and `value` are a line each over one generic read, and the calls take a block's bytes, of which a struct
+// would know nothing more: any bytes of any length are taken.
 pub fn number(b: &[u8], j: u8) -> u64
     ensures { result ≡ number_of b.now j }
 {

@@ -9,7 +9,8 @@ mod stream;
 use report::MOST;
 
 fn main(rt: HostRuntime) {
-    // One byte more than the longest input of the stated form, so that a longer one is seen to be.
+    // Kept: buffers of the most bytes with a length beside them, since a read is lent one and says how much it filled, and
+    // there is no heap. One byte more than the longest input of the stated form, so that a longer one is seen to be.
     let mut input = [0u8; 1718];
     let n = stream::read(&mut rt.stdin(), &mut input);
     // No output is longer, so none is refused.

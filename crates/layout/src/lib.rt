@@ -40,6 +40,7 @@ fn bytes_at<const N: usize>(b: &[u8], at: usize) -> [u8; N]
 }
 
 // The byte at a place; 0 past the end.
+// Kept: bytes and a place side by side, here and below, since a place may lie past the end, where no slice begins.
 pub fn byte_at(b: &[u8], at: usize) -> u8
     ensures { result ≡ get_or b.now at 0 }
 {

@@ -63,6 +63,7 @@ fn ended(slot: Option<u8>, b: &[u8], left: usize, d: usize) -> Result<Option<[u8
 }
 
 // Consults the n blocks of a path, as far as they are needed; `root` leads to the first.
+// Kept: n stands beside the path, since the caller has counted its blocks, and tells what is left by it.
 fn walk(root: Link, number: u64, path: &[u8], n: usize) -> Result<Option<[u8; 32]>, Refusal>
     requires { (length path.now ≡ size * n) × (n ≤ 3) }
     ensures { answer result ≡ consult path.now number n 0 root }

@@ -21,6 +21,7 @@ fn no_room(users: u8, user: u8) -> Refusal
 }
 
 // Sixteen counts, put into the lent array.
+// Kept: a loop, since `copy_from_slice` would be a call of memmove, which the archive does without.
 fn put(counts: [u32; 16], out: &mut [u32])
     requires { length out.old ≡ 16 }
     ensures { out.new ≡ counts }

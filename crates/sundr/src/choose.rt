@@ -8,6 +8,7 @@ ghost use Rattle.sundr.specs.Choose.{part_number, part_length};
 use cache::Source;
 
 // The number that tells where the block was found.
+// Kept: a `match` and no `From`, since the numbers are those of the C interface, and neither type is this crate's.
 fn number(s: Source) -> usize
     ensures { result ≡ part_number (choice s) }
 {

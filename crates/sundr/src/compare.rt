@@ -7,6 +7,7 @@ ghost use Rattle.sundr.specs.Compare.{standing_number, compared};
 use version::Standing;
 
 // The number that tells how they stand.
+// Kept: a `match` and no `From`, since the numbers are those of the C interface, and neither type is this crate's.
 fn number(s: Standing) -> usize
     ensures { result ≡ standing_number (standing_as s) }
 {

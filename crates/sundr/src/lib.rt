@@ -3,6 +3,8 @@
 // the array for a check's counts, of the buffer for what is to be sent again, of a server's list that is
 // lent as bytes and of the buffer for a handle that is looked up, and the numbers that tell "send again",
 // how two structures stand and which part was chosen.
+//
+// Kept: calls that differ only in what they call, and the pairs `users`, `user` and lengths beside buffers, are the C interface.
 #![tactic(auto)]
 
 pub mod block_store;

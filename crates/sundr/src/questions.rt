@@ -10,6 +10,7 @@ use refusal::Told;
 
 // The answer of many lookups as a number: a question's refusal has the question's index first, and
 // the position in its path second.
+// Kept: not by `answer_word`, since the C interface tells a question's refusal by other places than any other call's.
 fn outcome_word(answer: Result<(), AtQuestion>) -> u64
     ensures { (out : List ℕ) → result ≡ plain_word (answer_of out answer) }
 {
