@@ -1,14 +1,12 @@
--- What the searches of a block's slots give: the first place, or the last, at which a test holds, or whether it holds at all.
-use Prim.Native.Nat.{ℕ, zero, suc, ◌+◌, ◌-◌, ◌≤◌, ◌<◌}
+-- What a search of a block's slots from the last one down gives: the last place at which a test holds.
+use Prim.Native.Nat.{ℕ, zero, suc, ◌+◌, ◌-◌, ◌<◌}
 use mathlib.Core.Bool.{Bool, true, false}
 use mathlib.Core.List.{List, [], ◌∷◌}
-use mathlib.Core.Path.{◌≡◌, refl, sym, ap, ◌∙◌}
+use mathlib.Core.Path.{◌≡◌, refl, ap, ◌∙◌}
 use native.Mathlib.Numerals.{add-one}
 use native.Mathlib.Omega.{arith}
 use lib.Dec.{leb}
 use Rattle.std.specs.Prelude.{Option, None, Some, MatchOption}
-use Rattle.search.specs.Search.{first}
-use Rattle.search.proofs.Place.{first_at, first_none}
 use Rattle.itable.specs.Lookup.{last_at_most}
 use Rattle.block.specs.Place.{one_more}
 use Rattle.std.specs.declared.iter.Rev.{Rev}
@@ -18,14 +16,6 @@ use Rattle.std.specs.List.{find}
 use Rattle.std.specs.Option.{option_map}
 use Rattle.std.proofs.lemmas.Iterator.{YieldsList}
 use Rattle.std.proofs.lemmas.Iterator.Consumers.{YieldsList-from_shown}
-
--- From place 0 on, as `find` over a range says it.
-pub first_is :
-    (p : ℕ → Bool) (n : ℕ) {u : ℕ} → u ≡ n → (r : Option ℕ) →
-    MatchOption r ((k : ℕ) → 0 ≤ k → k < u → p k ≡ false)
-    (λ i. (0 ≤ i) × (i < u) × (p i ≡ true) × ((k : ℕ) → 0 ≤ k → k < i → p k ≡ false)) → r ≡ first p 0 n
-first_is p n e None h = sym (first_none p 0 n (λ j a l. h j a (omega arith)))
-first_is p n e (Some i) h = sym (first_at p 0 n i (omega arith) (omega (arith, h.1)) (λ j a l. h.3 j a l) h.2)
 
 -- The n numbers from a on, the greatest first: what a range gives from its end.
 abbrev pub down : ℕ → ℕ → List ℕ

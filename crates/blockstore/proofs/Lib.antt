@@ -1,4 +1,3 @@
-pub mod Lowest
 pub mod Laws
 pub mod Admitted
 pub mod Due

@@ -1,9 +1,9 @@
 -- Laws of the first place as an `Option`: what the code of a search returns, and what its caller then knows.
 use Prim.Native.Nat.{ℕ, ◌+◌, ◌≤◌, ◌<◌}
-use mathlib.Core.Bool.{Bool, true, false, not, cond}
+use mathlib.Core.Bool.{Bool, true, false, cond}
 use mathlib.Core.Path.{◌≡◌, refl, sym}
 use native.Mathlib.Omega.{arith}
-use Rattle.std.specs.Prelude.{Option, None, Some, ltb}
+use Rattle.std.specs.Prelude.{Option, None, Some, MatchOption, ltb}
 use Rattle.std.proofs.lemmas.Bool.{lt-ltb, le-ltb, ltb-true, ltb-false}
 use Rattle.std.proofs.lemmas.Option.{cond_some, none-some}
 use Rattle.search.specs.Search.{find, first}
@@ -29,3 +29,11 @@ module _ (p : ℕ → Bool) (i k : ℕ) where
 
   pub was_none : first p i k ≡ None → find p i k ≡ i + k
   was_none e = none_by (ltb (find p i k) (i + k)) refl e
+
+-- From place 0 on, as the library says it of `find` over a range.
+pub first_is :
+    (p : ℕ → Bool) (n : ℕ) {u : ℕ} → u ≡ n → (r : Option ℕ) →
+    MatchOption r ((k : ℕ) → 0 ≤ k → k < u → p k ≡ false)
+    (λ i. (0 ≤ i) × (i < u) × (p i ≡ true) × ((k : ℕ) → 0 ≤ k → k < i → p k ≡ false)) → r ≡ first p 0 n
+first_is p n e None h = sym (first_none p 0 n (λ j a l. h j a (omega arith)))
+first_is p n e (Some i) h = sym (first_at p 0 n i (omega arith) (omega (arith, h.1)) (λ j a l. h.3 j a l) h.2)

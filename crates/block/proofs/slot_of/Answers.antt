@@ -2,7 +2,7 @@
 use Rattle.std.proofs.Common.{◌≡◌, true, false, eqb, tests, arith, rules}
 use Rattle.std.proofs.lemmas.Iterator.{first_from_Range}
 use Rattle.itable.specs.Block.{number}
-use Rattle.block.proofs.Places.{first_is}
+use Rattle.search.proofs.Place.{first_is}
 use Rattle.block.proofs.slot_of.Goals as goal
 
 pub returns : goal.returns

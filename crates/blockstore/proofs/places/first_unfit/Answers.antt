@@ -1,17 +1,15 @@
 -- The first number at which the test of the code holds is where the search of the definition stops.
-use mathlib.Core.Bool.{not}
-use mathlib.Core.Path.{refl}
+use mathlib.Core.Bool.{true, false, not}
+use mathlib.Core.Path.{◌≡◌, refl}
 use lib.Dec.{leb}
 use Rattle.std.proofs.Common.{rules, tests}
-use Rattle.std.proofs.lemmas.Iterator.{YieldsList-from_range}
-use Rattle.std.proofs.lemmas.Iterator.Search.{find_from_yields_List}
+use Rattle.std.proofs.lemmas.Iterator.{first_from_Range}
 use Rattle.store.specs.Place.{place, block_length}
-use Rattle.blockstore.proofs.Lowest.{lowest}
+use Rattle.search.proofs.Place.{first_is}
 use Rattle.blockstore.proofs.places.first_unfit.Goals as goal
 
 pub returns : goal.returns
 returns c =
     let s = c.args.store.now in
-    lowest (λ p. not (leb (block_length (place s p)) 8192)) c.find.result 64
-    (find_from_yields_List (λ p. not (leb (block_length (place s p)) 8192)) _ _ c.find.result c.find.ensures.ran (YieldsList-from_range 0 64 64 refl refl)
-    (λ x b q k. search (rules, tests)))
+    first_is _ 64 refl _
+    (first_from_Range _ _ _ c.find.result (λ p. not (leb (block_length (place s p)) 8192) ≡ true) (λ p. not (leb (block_length (place s p)) 8192) ≡ false) c.find.ensures.ran (λ v q k. search (rules, tests)) (λ v q k. search (rules, tests)))
