@@ -2,7 +2,7 @@
 use Prim.Native.Nat.{ℕ, ◌≤◌, ◌<◌}
 use mathlib.Core.Bool.{Bool, true, false, ◌||◌}
 use mathlib.Core.List.{List, [], ◌∷◌}
-use mathlib.Core.Path.{◌≡◌, refl}
+use mathlib.Core.Path.{◌≡◌}
 use native.Mathlib.Omega.{arith}
 use borrow.Author.Tests.{lt-ltb, le-ltb}
 use Rattle.layout.specs.Bytes.{values}
@@ -14,10 +14,7 @@ use Rattle.refusal.specs.Order.{unless, in_order, tried}
 use Rattle.protocol.specs.Version.{counts_before, counts_strictly_before}
 use Rattle.protocol.specs.List.{records, record_at}
 use Rattle.protocol.specs.Check.{ordered}
-use Rattle.protocol.proofs.Standing.{is_before, is_ordered}
-use Rattle.version.specs.Version.{fields, count_in, standing_as}
-use Rattle.version.specs.declared.Standing.{Standing}
-use Rattle.version.specs.declared.Standing.TheVariants.{Equal, Before, After, Apart}
+use Rattle.version.specs.Version.{fields, count_in}
 use Rattle.version.proofs.Laws.{before_fields, strictly_values}
 
 module _ (R : ℕ → ℕ → Bool) (n : ℕ) where
@@ -56,16 +53,3 @@ module _ (list : List ℕ) (new : ℕ → ℕ) (x : List ℕ) (i : ℕ) (r : Boo
       (j : ℕ) (y : List ℕ) → records list ≤ j → y ≡ values new 0 16 → r ≡ counts_strictly_before (count_in x) (count_in y) → ordered list new i j ≡ r
   unfolding ordered
   compared_new j y h ey e = rw (le-ltb j (records list) h, e, ex, ey, strictly_values (record_at list i) new)
-
--- The comparison's other answers.
-pub not_apart : (s : Standing) → (s ≡ Apart → ⊥) → is_ordered (standing_as s) ≡ true
-not_apart Equal h = refl
-not_apart Before h = refl
-not_apart After h = refl
-not_apart Apart h = absurd (h refl)
-
-pub not_before : (s : Standing) → (s ≡ Before → ⊥) → is_before (standing_as s) ≡ false
-not_before Equal h = refl
-not_before Before h = absurd (h refl)
-not_before After h = refl
-not_before Apart h = refl

@@ -59,14 +59,14 @@ fn read_list(list: &Records<'_>, structures: &mut [Version; 16])
 fn comparable(x: [u32; 16], y: [u32; 16]) -> bool
     ensures { result ≡ (counts_before (count_in x) (count_in y) || counts_before (count_in y) (count_in x)) }
 {
-    !matches!(version::compare(x, y), Standing::Apart)
+    version::compare(x, y) != Standing::Apart
 }
 
 // Whether x is strictly before y, by how their counts stand.
 fn strictly_before(x: [u32; 16], y: [u32; 16]) -> bool
     ensures { result ≡ counts_strictly_before (count_in x) (count_in y) }
 {
-    matches!(version::compare(x, y), Standing::Before)
+    version::compare(x, y) == Standing::Before
 }
 
 // Whether all pairs are ordered: the records with each other, and each with a structure of the counts `next`.

@@ -1,4 +1,4 @@
--- The orders, as a `match` on the comparison's answer reads them: s is the answer, and t the variant that it is in an arm.
+-- The orders, as `== Before` and `!= Apart` read them in the comparison's answer.
 use Prim.Native.Nat.{ℕ}
 use mathlib.Core.Bool.{Bool, not, ◌||◌}
 use mathlib.Core.Path.{◌≡◌, refl, sym, ap, ◌∙◌}
@@ -10,14 +10,6 @@ use Rattle.version.specs.declared.Standing.{Standing}
 use Rattle.version.specs.declared.Standing.TheVariants.{Equal, Before, After, Apart}
 use Rattle.version.specs.contracts.Standing.{the_type}
 
-module _ (f g : ℕ → ℕ) {s t : Standing} (e : standing_as s ≡ standing f g) (h : s ≡ t) where
-  pub ordered_by : is_ordered (standing_as t) ≡ (counts_before f g || counts_before g f)
-  ordered_by = ap is_ordered (ap standing_as (sym h) ∙ e) ∙ sym (ordered_read f g)
-
-  pub before_by : is_before (standing_as t) ≡ counts_strictly_before f g
-  before_by = ap is_before (ap standing_as (sym h) ∙ e) ∙ sym (strictly_read f g)
-
--- The same, as `== Before` and `!= Apart` read it.
 same_before : (s : Standing) → sameb the_type s Before ≡ is_before (standing_as s)
 same_before Equal = refl
 same_before Before = refl
