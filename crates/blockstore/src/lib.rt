@@ -33,6 +33,7 @@ const BLOCK: usize = 8192;
 const HASH: usize = 32;
 
 // Makes an empty store of 526,464 lent bytes: all of them zero.
+// Kept: store and user side by side, here and below, as the C interface has them.
 pub fn make(store: &mut [u8]) -> Result<(), Refusal>
     ensures { Gives (make_of store.old) store.old store.new result }
 {

@@ -48,6 +48,7 @@ pub(crate) fn holds(x: &[u8], hash: &[u8]) -> bool
 }
 
 // Writes bytes over those from a place on.
+// Kept: bytes and a place; a part of the store in their stead would have to be put back into what is said of the whole.
 pub(crate) fn put(store: &mut [u8], at: usize, new: &[u8])
     requires { at + length new.now ≤ length store.old }
     ensures { store.new ≡ put_at store.old at new.now }

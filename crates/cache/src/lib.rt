@@ -30,6 +30,7 @@ fn fits(wanted: &[u8], part: &[u8]) -> bool
     there && sha256::is_hash(part, wanted)
 }
 
+// Kept: reply and cached part side by side, here and below, as the C interface has them.
 // Says which of two parts is the block of the wanted hash. The cached part is hashed only where the
 // reply does not fit.
 pub fn choose(wanted: &[u8], reply: &[u8], cached: &[u8]) -> Result<Source, Refusal>

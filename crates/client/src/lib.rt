@@ -35,6 +35,7 @@ pub enum Verdict {
 // `file` is the client's memory file (100 bytes); `list` the server's records end to end; `marks` one byte
 // for each record, 1 for a good signature. The caller owns every buffer, and none is written. A refusal is
 // the first of the paper's order. Any lengths and any bytes are taken.
+// Kept: users and user, list and marks come from C as they are here, and are judged in a fixed order.
 pub fn check(
     users: u8,
     user: u8,

@@ -81,7 +81,7 @@ fn pairs(list: &Records<'_>, next: [u32; 16]) -> Result<(), Refusal>
     let mut structures = [blank; 16];
     read_list(list, &mut structures);
     let n = list.len();
-    // 01's form for the comparison of all pairs: a label is left at the first pair that is apart.
+    // Kept: rule of the project, 01's form for the comparison of all pairs: a label is left at the first pair that is apart.
     'pairs: {
         for i in 0..n {
             let low = structures[i].counts;

@@ -41,6 +41,7 @@ impl<'a> Records<'a> {
         self.bytes.len() / SIZE
     }
 
+    // Kept: that i is below the number of records is asked of each method that takes it, as a slice asks it of an index.
     // The bytes of record i.
     pub(crate) fn at(&self, i: usize) -> &'a [u8]
         requires { i < records_of self.now }

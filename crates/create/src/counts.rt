@@ -10,8 +10,8 @@ ghost use Rattle.protocol.specs.Meaning.{Users};
 use refusal::Refusal;
 
 // Whether the counts of the users from `from` to 15 are all 0.
-// Kept: that there are sixteen is a clause, here and in record.rt, since an array in place of the lent slice would be a
-// second test of the length that `lengths` has tested, with the others, for one refusal.
+// Kept: that there are sixteen is a clause, here and in record.rt, since `first_chunk`, which would make an array
+// of the lent slice, takes a longer one too: the length would be tested twice.
 fn zero_from(counts: &[u32], from: usize) -> bool
     requires from_le { from ≤ 16 }
     requires counts_len { length counts.now ≡ 16 }

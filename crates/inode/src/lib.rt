@@ -39,6 +39,7 @@ struct Form {
     most: u32,
 }
 
+// Kept: kinds are 01's bytes, here and in large.rt: each is compared with the byte that stands there, and with nothing else.
 const FORM: Form = Form {
     size: 517,
     kind: 6,
@@ -167,6 +168,7 @@ fn file_block_check(inode: &[u8], k: u32, hash: &[u8], block: &[u8]) -> Result<S
     })
 }
 
+// Kept: handle and inode, inode and k side by side, here and below, as the C interface has them.
 // Checks a file's inode, which has the file handle for its hash, and block k of the file. Gives the
 // file offset and the length of the block. All that is lent is only read.
 pub fn block_check(handle: &[u8], inode: &[u8], k: u32, block: &[u8]) -> Result<Span, Refusal>

@@ -159,11 +159,6 @@ pub fn judge(input: &[u8]) -> Report
     Report {
         users,
         user,
-        // Kept: rule of the project (small stack): with `parse(input).map(..)` here, and the check's verdict bound to a
-        // name in `ask`, the desk program took 6,832 bytes of stack, above 6,784; so it takes 6,688.
-        judged: match parse(input) {
-            Some(parts) => Some(checked(users, user, &parts)),
-            None => None,
-        },
+        judged: parse(input).map(|parts| checked(users, user, &parts)),
     }
 }

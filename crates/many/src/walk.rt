@@ -58,6 +58,7 @@ fn consult(link: Link, b: &[u8], number: u64, left: usize, d: usize) -> Result<O
 
 // Consults the n blocks of the paths from `first` on, as far as they are needed; `root` leads to the
 // first of them. Each block that has the hash due is known from then on.
+// Kept: no part of the paths but all of them, with a place and a number, since what is known of a block is its index among all.
 fn walk(
     root: Link,
     number: u64,

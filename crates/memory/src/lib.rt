@@ -76,6 +76,7 @@ pub fn pending(file: &[u8]) -> bool
 }
 
 // The structure that the file remembers, where it lies in the file; no bytes in state none.
+// Kept: no bytes, and no `None`, since the definition `held` has them, and the check compares them with a record.
 pub fn held(file: &[u8]) -> &[u8]
     ensures { result.now ≡ held_of file.now }
 {
@@ -98,6 +99,7 @@ fn lay(state: u8, x: &[u8], out: &mut [u8])
 
 // The file of what a client remembered before there were files: no bytes, or one structure, which is taken
 // as sent. Nothing of it is judged. Of any other length it gives zeros, which are no file.
+// Kept: zeros, and no `None`, since the clause `other` promises them.
 pub fn file_of(old: &[u8]) -> [u8; FILE]
     ensures laid { (length old.now ≡ 0) ⊎ (length old.now ≡ size) → result ≡ file_of old.now }
     ensures other { (length old.now ≡ 0 → ⊥) → (length old.now ≡ size → ⊥) → result ≡ replicate 100 0 }

@@ -10,6 +10,7 @@ use arrayvec::ArrayString;
 pub(crate) type Text = ArrayString<MOST>;
 
 // A number, a space before it: no u64 takes more than 20 digits.
+// Kept: each function asks for the room of what it writes, as `push_str` does: there is no one fact to put into a type.
 pub(crate) fn number(n: u64, text: &mut Text)
     requires { array_string_len text.old + 21 ≤ 393 }
     ensures appended { text.new.bytes ≡ text.old.bytes ++ spaced n }

@@ -23,6 +23,7 @@ impl<'a> Model for Lent<'a> {
 }
 
 impl Lent<'_> {
+    // Kept: that v is below 16 is asked of each method that takes it, as a slice asks it of an index.
     // User v's place.
     fn slot(&self, v: usize) -> &[u8]
         requires { v < 16 }
@@ -34,6 +35,7 @@ impl Lent<'_> {
     }
 
     // The record held of user v: none, so no bytes, where the own count in its place is 0.
+    // Kept: no bytes, and no `None`, since the definition `held` has them, and `follows` asks for their length.
     pub(crate) fn held(&self, v: usize) -> &[u8]
         requires { v < 16 }
         ensures record { result.now ≡ held_of self.now v }

@@ -85,6 +85,7 @@ fn replace(records: &mut [u8], x: &[u8], owner: usize)
 
 // A commit where the sixteen records are lent by themselves. Writes the record's 98 bytes if it is
 // accepted, and nothing else. Refused where the records' length is another, and as `commit` is.
+// Kept: record and mark side by side, as the C interface has them.
 pub fn commit_into(users: u8, records: &mut [u8], x: &[u8], mark: u8) -> Result<(), Refusal>
     ensures { Gives (commit_into users records.old x.now mark) records.old records.new result }
 {

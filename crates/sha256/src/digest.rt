@@ -6,6 +6,7 @@ ghost use Rattle.sha256.specs.Sha256.{bytes_of};
 use crate::State;
 
 // Puts the four bytes of x at i.
+// Kept: bytes and a place; a part of `out` in their stead would have to be put back into what is said of the whole.
 pub(crate) fn store(out: &mut [u8], i: usize, x: u32)
     requires { i + 4 ≤ length out.old }
     ensures { out.new ≡ take i out.old ++ (bytes4 x ++ drop (i + 4) out.old) }

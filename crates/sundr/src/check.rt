@@ -20,19 +20,9 @@ fn no_room(users: u8, user: u8) -> Refusal
     Refusal::Length(0)
 }
 
-// Sixteen counts, put into the lent array.
-// Kept: a loop, since `copy_from_slice` would be a call of memmove, which the archive does without.
-fn put(counts: [u32; 16], out: &mut [u32])
-    requires { length out.old ≡ 16 }
-    ensures { out.new ≡ counts }
-{
-    for v in 0..16 {
-        out[v] = counts[v];
-    }
-}
-
 // A client's check of a version structure list, on its memory file: the counts of its next structure,
 // into sixteen lent numbers; or 255, and into 98 lent bytes the structure that is to be sent again.
+// Kept: 0 and 255 are the C interface's numbers.
 pub fn sundr_memory_check(
     users: u8,
     user: u8,
@@ -57,7 +47,7 @@ pub fn sundr_memory_check(
     }
     match client::check(users, user, file, list, marks) {
         Ok(Verdict::Next(new)) => {
-            put(new, counts);
+            counts.copy_from_slice(&new);
             0
         }
         Ok(Verdict::Again(bytes)) => {

@@ -52,6 +52,7 @@ fn admit(numbers: &[u64], handles: &[u8], room: usize) -> Result<(), Refusal>
 // Writes the blocks of a table of files to the front of `out`, each of 642 bytes, and gives their
 // number. The i-numbers strictly ascend, `handles` has 32 bytes for each of them, and there are at
 // most 4,096. What stands in `out` after the last block is kept; a refused call keeps all of it.
+// Kept: numbers and handles are two slices as two buffers of the C interface are.
 pub fn write(numbers: &[u64], handles: &[u8], out: &mut [u8]) -> Result<usize, Refusal>
     ensures { Writes numbers.now handles.now out.old out.new result }
 {
