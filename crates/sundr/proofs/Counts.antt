@@ -5,14 +5,9 @@ use mathlib.Core.Bool.{◌&&◌}
 use mathlib.Core.List.{List, [], ◌∷◌}
 use mathlib.Core.Logic.{◌⊎◌, inl, inr, ⊎_elim}
 use mathlib.Core.Path.{◌≡◌, refl, sym, ap, ◌∙◌}
-use native.Mathlib.Omega.{arith}
 use lib.Dec.{eqb}
-use lib.ListN.{length, get_or}
-use lib.Seq.{ext_get_or}
 use borrow.Author.Tests.{eqb-true, eq-eqb}
 use Rattle.search.proofs.Bool.{both_true}
-use Rattle.layout.specs.Bytes.{values}
-use Rattle.layout.proofs.Values.{length_values, value_at}
 use Rattle.std.specs.Prelude.{Result, Ok, Err}
 use Rattle.refusal.specs.Answer.{Answer, refused, and_then}
 use Rattle.refusal.specs.Order.{tried}
@@ -34,12 +29,6 @@ use Rattle.client.specs.Judged.{told}
 use Rattle.client.specs.declared.Verdict.{Verdict}
 use Rattle.client.specs.declared.Verdict.TheVariants.{Next, Again}
 use Rattle.sundr.specs.Check.{room_steps, check_into, send_again, verdict_word, counts_left, again_left}
-
--- All sixteen values of sixteen counts are these counts.
-pub all_values : (counts : List ℕ) → length counts ≡ 16 → values (λ v. get_or counts v 0) 0 16 ≡ counts
-all_values counts l =
-    let f : ℕ → ℕ = λ v. get_or counts v 0 in
-    ext_get_or 0 (values f 0 16) counts (length_values f 0 16 ∙ sym l) (λ v h. value_at f 16 v (omega (arith, length_values f 0 16)))
 
 -- The answer `due` is told by this number, and array and buffer are these after it.
 abbrev pub Tells : Answer Due → ℕ → List ℕ → List ℕ → List ℕ → List ℕ → Type 0

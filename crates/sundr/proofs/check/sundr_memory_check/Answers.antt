@@ -32,7 +32,7 @@ returns-in-Ok-Next c =
     let a = c.args in
     let room : (length a.counts.now ≡ 16) × (length a.again.now ≡ size) = (omega arith, omega arith) in
     let t = tells_next a.users a.user (length a.counts.now) (length a.again.now) a.file.now a.list.now a.marks.now room c.check.result c.check.ensures
-    a.counts.now a.again.now _ (c.in-Ok-Next.is ∙ ap Ok c.in-Ok-Next.field-0-is) refl c.put.ensures in
+    a.counts.now a.again.now _ (c.in-Ok-Next.is ∙ ap Ok c.in-Ok-Next.field-0-is) refl c.copy_from_slice.ensures.after in
     record { answer = t.0; counts = t.1.0; again = t.1.1 }
 
 pub returns-in-Ok-Again : goal.returns-in-Ok-Again
