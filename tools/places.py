@@ -87,12 +87,22 @@ def repeated(sources):
             yield f"{crate}: {fact}: {len(at)} functions: {' '.join(at)}"
 
 
+def parameters(head):
+    """What stands between the parentheses of a function's parameters."""
+    start = FUNCTION.search(head).end()
+    depth, at = 1, start
+    while depth and at < len(head):
+        depth += {"(": 1, ")": -1}.get(head[at], 0)
+        at += 1
+    return head[start:at - 1]
+
+
 def together(sources):
-    """Two or more parameters that three or more functions of a crate take side by side."""
+    """Two parameters that three or more functions of a crate take side by side."""
     seen = collections.defaultdict(list)
     for name, text in sources:
         for fn, line, head, body in functions(text):
-            taken = re.findall(r"(\w+): ((?:&'?\w* ?)?(?:mut )?(?:\[[^\]]*\]|\w+))", head.split(")")[0])
+            taken = re.findall(r"(\w+): ((?:&'?\w* ?)?(?:mut )?(?:\[[^\]]*\]|\w+))", parameters(head))
             for a, b in zip(taken, taken[1:]):
                 seen[name.split("/")[1], a[0], b[0]].append(f"{name}:{line}")
     for (crate, a, b), at in sorted(seen.items()):

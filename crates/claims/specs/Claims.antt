@@ -110,7 +110,7 @@ pub record Claims : Type 1 where
   pub create_means : CreateMeans
   -- What it makes: its owner, its handle, and each of its counts.
   pub made_means : MadeMeans
-  -- What a check gave, the making step takes, and of a refused check's zeros it makes nothing; whatever it takes, it makes a well formed structure
+  -- What a check gave, the making step takes, and of sixteen zeros it makes nothing; whatever it takes, it makes a well formed structure
   -- of its user.
   pub create_after_check : CreateAfterCheck
   -- The check on a memory file: when it gives counts, when it says "send again", and when and why it refuses.

@@ -16,6 +16,7 @@ use refusal::Refusal;
 use version::{SIZE, Standing, Version};
 
 // Whether the list's record of the user and the structure that is held are the same bytes, or neither exists.
+// Kept: the user, what is held and the list side by side, here and below, as the definitions of `protocol` take them.
 #[tactic(auto, unfolding(protocol::specs::Check::current))]
 fn current(user: u8, held: &[u8], list: &Records<'_>) -> bool
     ensures { result ≡ current_of user held.now list.now }

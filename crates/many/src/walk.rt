@@ -31,6 +31,7 @@ fn has_hash(paths: &[u8], i: usize, known: Option<Known>, hash: [u8; 32]) -> boo
 }
 
 // The slot that leads on from the block, if there is one: none does in a leaf.
+// Kept: a block and the i-number that is asked for side by side, as the definitions of `itable` take them.
 fn leads(b: &[u8], number: u64) -> Option<u8>
     ensures { one_more result ≡ leads_at b.now number }
 {

@@ -11,7 +11,7 @@ pub record CreateAfterCheck : Type 0 where
   pub accepts :
       (N u : ℕ) (mem list marks c handle : List ℕ) → check N u mem list marks ≡ accepted c → length handle ≡ 32 →
       create N u mem c handle 98 ≡ accepted (structure u handle (λ v. get_or c v 0))
-  -- Of the sixteen zeros that a refused check gives, nothing is made.
+  -- Of sixteen zeros, which no check gives, nothing is made.
   pub no_zeros :
       (N u : ℕ) (mem handle : List ℕ) (room : ℕ) (x : List ℕ) → create N u mem (replicate 16 0) handle room ≡ accepted x → ⊥
   -- Whatever counts it got, what it accepts is well formed, and its user's own.
