@@ -1,14 +1,13 @@
 -- Laws of the values of a function at places in a row, and of a list that is filled with them from the front.
 use Prim.Native.Nat.{ℕ, zero, suc, ◌+◌, ◌-◌, ◌≤◌, ◌<◌}
-use mathlib.Core.List.{List, [], ◌∷◌, ◌++◌, append-nil}
+use mathlib.Core.List.{List, [], ◌∷◌, ◌++◌}
 use mathlib.Core.Path.{◌≡◌, refl, sym, ap, ap₂, ◌∙◌}
+use native.Mathlib.Decide.{dec_le}
 use native.Mathlib.Numerals.{add-one}
 use native.Mathlib.Omega.{arith}
-use lib.ListN.{length, get_or, take, drop, set, replicate, length-append, length-take, length-drop, length-replicate, drop_of_length-le}
-use lib.Seq.{take-suc-set, take-length, take_all, length-take-le, get_or-take, get_or-drop, ext_get_or}
-use Rattle.std.proofs.lemmas.List.{drop-replicate}
+use lib.ListN.{length, get_or, take, drop, set, replicate, length-append, length-drop, length-replicate, get_or-replicate, get_or-append, get_or-eq_default}
+use lib.Seq.{take-suc-set, take-length, take_all, length-take-le, get_or-take, get_or-drop, get_or-append-add, ext_get_or}
 use Rattle.layout.specs.Bytes.{values, bytes_at}
-use Rattle.layout.proofs.Zeros.{zeros_read}
 
 pub length_values : (f : ℕ → ℕ) (i k : ℕ) → length (values f i k) ≡ k
 unfolding values
@@ -50,21 +49,44 @@ values_part b a n h = sym (values_rest b a n (simp length-drop (omega arith)))
 pub values_whole : (b : List ℕ) (n : ℕ) → length b ≡ n → bytes_at b 0 n ≡ b
 values_whole b n l = values_part b 0 n (omega arith) ∙ take_all n b (omega arith)
 
--- The n bytes from a on, copied over n zeros.
+-- A byte after m others that were copied over n zeros.
+zero_after : (s : List ℕ) (m n i : ℕ) → length s ≡ m → m ≤ i → i < n → get_or (s ++ drop m (replicate n 0)) i 0 ≡ 0
+zero_after s m n i l lo hi =
+    let zeros : List ℕ = replicate n 0 in
+    let p : i ≡ length s + (i - m) = omega arith in
+    let q : m + (i - m) ≡ i = omega arith in
+    ap (λ x. get_or (s ++ drop m zeros) x 0) p ∙
+    rw (get_or-append-add s (drop m zeros) (i - m) 0, get_or-drop m zeros (i - m) 0, q) (get_or-replicate n i 0 0 hi)
+
+-- The m bytes that are there, copied over n zeros.
+pub rest_copied :
+    (b s : List ℕ) (a m n : ℕ) → m ≤ n → m ≤ length b - a → ((i : ℕ) → m ≤ i → i < n → length b ≤ a + i) → s ≡ take m (drop a b) →
+    take (length s) s ++ drop (length s) (replicate n 0) ≡ bytes_at b a n
+rest_copied b s a m n few h past e =
+    let l : length s ≡ m = rw e (length-take-le m (drop a b) (simp length-drop (omega arith))) in
+    let r : length (s ++ drop m (replicate {A = ℕ} n 0)) ≡ n = simp (length-append, length-drop, length-replicate) (omega arith) in
+    rw (take-length, l)
+    (ext_get_or {A = ℕ} 0 _ _ (r ∙ sym (length_values _ 0 n))
+    (λ i k.
+    let z : 0 + i ≡ i = omega arith in
+    let v : get_or (bytes_at b a n) i 0 ≡ get_or b (a + i) 0 = get_or_values _ 0 n i (omega arith) ∙ ap (λ j. get_or b (a + j) 0) z in
+    elim (dec_le m i) [
+      | yes f ↦ rw (v, get_or-eq_default b 0 (past i f (omega arith))) (zero_after s m n i l f (omega arith))
+      | no f ↦ rw (v, get_or-append s (drop m (replicate n 0)) 0 i (omega arith), e, get_or-take m (drop a b) i 0 (omega arith), get_or-drop a b i 0)
+    ]))
+
+-- The same, where all are there.
 pub part_copied :
     (b s : List ℕ) (a n : ℕ) → a + n ≤ length b → s ≡ take n (drop a b) →
     take (length s) s ++ drop (length s) (replicate n 0) ≡ bytes_at b a n
-part_copied b s a n h e =
-    let l : length (replicate {A = ℕ} n 0) ≤ length s = rw e (simp (length-take, length-drop, length-replicate) (omega arith)) in
-    rw (take-length s, drop_of_length-le (replicate n 0) {i = length s} l, append-nil) (e ∙ sym (values_part b a n h))
+part_copied b s a n h e = rest_copied b s a n n (omega arith) (omega arith) (λ i l k. absurd (omega arith)) e
 
--- The bytes from a on, copied over n zeros, where there are no more than n.
-pub rest_copied :
+-- The same, of all bytes from a on, where there are no more than n.
+pub end_copied :
     (b s : List ℕ) (a n : ℕ) → s ≡ drop a b → length s ≤ n → take (length s) s ++ drop (length s) (replicate n 0) ≡ bytes_at b a n
-rest_copied b s a n e few =
-    rw (take-length, drop-replicate)
-    (values_each _ (s ++ replicate (n - length s) 0) n (simp (length-append, length-replicate) (omega arith))
-    (λ i k. zeros_read s (n - length s) i ∙ rw e (get_or-drop a b i 0)))
+end_copied b s a n e few =
+    let l : length s ≡ length b - a = ap length e ∙ length-drop a b in
+    rest_copied b s a (length s) n few (omega arith) (λ i k h. omega arith) (sym (take-length s) ∙ ap (take (length s)) e)
 
 values_last : (f : ℕ → ℕ) (i k : ℕ) → values f i (suc k) ≡ values f i k ++ (f (i + k) ∷ [])
 unfolding values

@@ -1,13 +1,14 @@
 -- Laws of zeros behind bytes. Past the end of the bytes zeros are read, so that zeros that are written there are read as well.
 use Prim.Native.Nat.{ℕ, zero, suc, ◌+◌, ◌-◌, ◌≤◌, ◌<◌, min}
 use mathlib.Core.Bool.{Bool, true, ◌&&◌}
-use mathlib.Core.List.{List, [], ◌∷◌, ◌++◌}
+use mathlib.Core.List.{List, [], ◌∷◌, ◌++◌, append_assoc, append-nil}
 use mathlib.Core.Logic.{◌↔◌}
 use mathlib.Core.Path.{◌≡◌, refl, sym, ap, ◌∙◌}
+use native.Mathlib.Numerals.{add-one}
 use native.Mathlib.Omega.{arith}
 use lib.Dec.{eqb}
-use lib.ListN.{length, get_or, replicate, length-append, length-replicate, get_or-eq_default}
-use lib.Seq.{ext_get_or}
+use lib.ListN.{length, get_or, take, set, replicate, replicate-append-replicate, length-append, length-replicate, get_or-eq_default}
+use lib.Seq.{take-suc-set, ext_get_or}
 use borrow.Author.Tests.{eqb-true, eq-eqb}
 use Rattle.search.specs.Search.{every}
 use Rattle.search.proofs.Search.{every_at, every_intro, every_next, every_reach}
@@ -54,3 +55,16 @@ module _ (b : List ℕ) (from x : ℕ) (h : from ≤ x) where
   zeros_reach to w past =
       every_reach (λ j. eqb (get_or b j 0) 0) from (x - from) (to - from) w
       (λ j a l. eq-eqb (get_or b j 0) 0 (get_or-eq_default b 0 {n = j} (omega arith)))
+
+-- Zeros from a place on: none yet, and one more.
+pub uncleared : (from : ℕ) (o : List ℕ) → take from o ≡ take from o ++ replicate (from - from) 0
+uncleared from o = let z : from - from ≡ 0 = omega arith in rw (z, append-nil)
+
+pub cleared :
+    (from i : ℕ) (o l : List ℕ) → from ≤ i → i < length l → take i l ≡ take from o ++ replicate (i - from) 0 →
+    take (i + 1) (set l i 0) ≡ take from o ++ replicate (i + 1 - from) 0
+cleared from i o l h k e =
+    let n : i - from + 1 ≡ suc i - from = omega arith in
+    let r : replicate {A = ℕ} (i - from) 0 ++ replicate 1 0 ≡ replicate (suc i - from) 0 =
+    replicate-append-replicate (i - from) 1 0 ∙ ap (λ m. replicate {A = ℕ} m 0) n in
+    rw (add-one i, take-suc-set l i 0 k, e, append_assoc (take from o)) (ap (take from o ++◌) r)

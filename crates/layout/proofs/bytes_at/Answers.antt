@@ -5,14 +5,14 @@ use mathlib.Core.Path.{◌≡◌, sym, ap, ◌∙◌}
 use native.Mathlib.Omega.{arith}
 use lib.ListN.{length, take, drop, length-replicate, drop_of_length-le}
 use Rattle.std.proofs.lemmas.Slice.{between_to_end}
-use Rattle.layout.proofs.Values.{values_rest, rest_copied}
+use Rattle.layout.proofs.Values.{values_rest, end_copied}
 use Rattle.layout.proofs.bytes_at.Goals as goal
 
 pub returns-in_default : goal.returns-in_default
 returns-in_default g c =
     let a = c.args in
     let past : length a.b.now ≤ a.at = omega (arith, c.in_default.ensures.lookup.0) in
-    rest_copied a.b.now [] a.at g.row.N (sym (drop_of_length-le a.b.now {i = a.at} past)) (omega arith)
+    end_copied a.b.now [] a.at g.row.N (sym (drop_of_length-le a.b.now {i = a.at} past)) (omega arith)
 
 pub returns-in-Some-first_chunk : goal.returns-in-Some-first_chunk
 returns-in-Some-first_chunk g c =
@@ -26,4 +26,4 @@ returns g c =
     let a = c.args in
     let rest : c.in-Some.rest.now ≡ drop a.at a.b.now = c.in-Some.ensures.lookup.0.2 ∙ between_to_end a.b.now a.at _ (omega arith) in
     let few : length c.in-Some.rest.now ≤ g.row.N = omega (arith, c.in_default-first_chunk.ensures.cases) in
-    c.copy.ensures.copied (simp length-replicate few) ∙ rest_copied a.b.now _ a.at g.row.N rest few
+    c.copy.ensures.copied (simp length-replicate few) ∙ end_copied a.b.now _ a.at g.row.N rest few
