@@ -1,5 +1,5 @@
 -- The code's rounds are FIPS's: each takes the word at its place of the array, and that is the standard's (`words_taken`).
--- The law of one round is `turned`, over the round's number and the queue, which the function of sixteen rounds cites.
+-- The law of one round is `one_more`, over the round's number and the words; that of one turn, `turned`, is cited by the function of sixteen.
 use Rattle.std.proofs.Common.{◌≡◌, ℕ, zero, suc, ◌+◌, ◌%◌, ◌<◌, ◌≤◌, List, get_or, sym, refl, ap, ◌∙◌, add-zero, add-suc, arith, lt-ltb, le-ltb}
 use native.Mathlib.Decide.{dec_lt}
 use Rattle.sha256.specs.declared.State.{State}
@@ -11,6 +11,18 @@ use Rattle.sha256.proofs.WordsTaken.{words_taken}
 -- Rounds of equal parts: the table stays out of what is rewritten.
 alike : {s s' : State} {k k' w w' : ℕ} → s ≡ s' → k ≡ k' → w ≡ w' → round_of s k w ≡ round_of s' k' w'
 alike e f g = rw (e, f, g)
+
+-- What a round's contract says of the result r of round t, with the table k and the words w.
+abbrev pub Takes : State → List ℕ → List ℕ → ℕ → State → Type 0
+Takes s k w t r = (k ≡ K) × (r ≡ round_of s (get_or k t 0) (get_or w (t % 16) 0))
+
+pub one_more :
+    (q : ℕ → List ℕ) (z : State) (t n : ℕ) {s r : State} {k : List ℕ}
+    → s ≡ rounds_over q z t n
+    → Takes s k (q n) (t + n) r
+    → r ≡ rounds_over q z t (suc n)
+unfolding rounds_over
+one_more q z t n e c = c.1 ∙ alike e (ap (λ k. get_or k (t + n) 0) c.0) refl
 
 -- The working variables s and the queue w after n turns from z and v, from round t on.
 abbrev pub Turned : List ℕ → State → ℕ → ℕ → State → List ℕ → Type 0
@@ -28,9 +40,10 @@ pub turned :
     → r ≡ round_of s (get_or K i 0) (get_or w (i % 16) 0)
     → w' ≡ after_round w i
     → Turned v z t (suc n) r w'
-unfolding queue_after rounds_over
+unfolding queue_after
 turned v z t n h e takes leaves = (
-  takes ∙ alike e.0 (ap (λ i. get_or K i 0) h) (rw h (ap (λ w. get_or w ((t + n) % 16) 0) e.1)),
+  one_more (queue_after v t) z t n e.0
+      (refl, takes ∙ alike refl (ap (λ i. get_or K i 0) h) (rw h (ap (λ w. get_or w ((t + n) % 16) 0) e.1))),
   leaves ∙ rw h (ap (λ w. after_round w (t + n)) e.1),
 )
 

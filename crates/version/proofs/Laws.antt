@@ -6,7 +6,7 @@ use mathlib.Core.Path.{◌≡◌, refl, ap₂}
 use lib.Dec.{leb, eqb}
 use Rattle.layout.specs.Bytes.{values}
 use Rattle.layout.proofs.Values.{value_at}
-use Rattle.protocol.specs.Version.{count, counts_before, counts_strictly_before, at_or_before}
+use Rattle.protocol.specs.Version.{count, counts_before, counts_strictly_before, at_or_before, strictly_before}
 use Rattle.search.proofs.Search.{every_cong}
 use Rattle.version.specs.Version.{fields, count_in}
 
@@ -33,6 +33,10 @@ strictly_cong f h g k p q =
 pub strictly_values :
     (x : List ℕ) (g : ℕ → ℕ) → counts_strictly_before (count_in (fields x).counts) (count_in (values g 0 16)) ≡ counts_strictly_before (count x) g
 strictly_values x g = strictly_cong _ _ _ _ (count_fields x) (count_values g)
+
+pub strictly_fields : (x y : List ℕ) → counts_strictly_before (count_in (fields x).counts) (count_in (fields y).counts) ≡ strictly_before x y
+unfolding fields
+strictly_fields x y = strictly_values x (count y)
 
 -- The counts that are read of a record, compared with any; and any compared with those among a record's fields.
 pub before_counts : (x : List ℕ) (g : ℕ → ℕ) → counts_strictly_before (count_in (values (count x) 0 16)) g ≡ counts_strictly_before (count x) g
