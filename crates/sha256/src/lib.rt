@@ -60,7 +60,9 @@ pub fn sha256(message: &[u8], out: &mut [u8]) -> Result<(), Refusal>
 }
 
 // Whether `wanted` is the SHA-256 hash of `message`, all its 32 bytes. Both are only read. Of a
-// message of over 65,536 bytes no hash is.
+// message of over 65,536 bytes no hash is. It is a call of its own, so that the 32 bytes that are compared take
+// no room on the stack beside what its callers hold.
+#[inline(never)]
 pub fn is_hash(message: &[u8], wanted: &[u8]) -> bool
     ensures { result ≡ is_hash message.now wanted.now }
 {
