@@ -21,8 +21,12 @@ use Rattle.lookup.specs.declared.Step.TheVariants.{Ends, Leads}
 
 module _ (path : List ℕ) (i n d : ℕ) (k : Link) {a : Answer Entry} (g : consult path i (n - d) d k ≡ a) where
   -- No block is left.
-  pub none_more : n ≤ d → d ≤ n → refused 9 n 0 ≡ a
-  none_more h l = let e : n ≡ d = omega arith in ap (λ m. refused 9 m 0) e ∙ (sym (consult_none path i n d k h) ∙ g)
+  pub none_more : n ≤ d → refused 9 d 0 ≡ a
+  none_more h = sym (consult_none path i n d k h) ∙ g
+
+  -- The same by the number of blocks.
+  pub none_left : n ≤ d → d ≤ n → refused 9 n 0 ≡ a
+  none_left h l = let e : n ≡ d = omega arith in ap (λ m. refused 9 m 0) e ∙ none_more h
 
   -- Block d.
   module _ (h : d < n) (block : List ℕ) (eb : take size (drop (size * d) path) ≡ block) {s : Result Step Refusal} (st : Consulted block k i d s) where

@@ -64,6 +64,14 @@ fn ended(slot: Option<u8>, b: &[u8], left: usize, d: usize) -> Result<Option<[u8
     }
 }
 
+// The same block. The compiler does not see of a chunk how long it is; of this it does, and tests no place in it again.
+fn whole(chunk: &[u8]) -> &[u8]
+    requires { length chunk.now ≡ size }
+    ensures { result.now ≡ chunk.now }
+{
+    &chunk[..block::SIZE]
+}
+
 // Consults the n blocks of a path, as far as they are needed; `root` leads to the first.
 // Kept: n beside the path: without it the blocks that `lookup` counts, to refuse a length, are counted twice.
 fn walk(root: Link, number: u64, path: &[u8], n: usize) -> Result<Option<[u8; 32]>, Refusal>
@@ -71,7 +79,8 @@ fn walk(root: Link, number: u64, path: &[u8], n: usize) -> Result<Option<[u8; 32
     ensures { answer result ≡ consult path.now number n 0 root }
 {
     let mut link = root;
-    for (d, b) in path.chunks_exact(block::SIZE).enumerate() {
+    for (d, chunk) in path.chunks_exact(block::SIZE).enumerate() {
+        let b = whole(chunk);
         match one_block(link, b, number, d)? {
             Step::Ends(slot) => return ended(slot, b, n - d - 1, d + 1),
             Step::Leads(j) => link = block::child(link, b, j),

@@ -1,7 +1,7 @@
 use mathlib.Core.Path.{refl, sym, ◌∙◌}
 use native.Mathlib.Omega.{arith}
 use native.Mathlib.Nat.{sub-zero}
-use Rattle.lookup.proofs.Along.{none_more, refuses, ends_here, leads_on, chunk_within, chunk_block, chunk_rest, chunk_none}
+use Rattle.lookup.proofs.Along.{none_left, refuses, ends_here, leads_on, chunk_within, chunk_block, chunk_rest, chunk_none}
 use Rattle.lookup.proofs.walk.Goals as goal
 
 pub loop-d-init : goal.loop-d-init
@@ -21,7 +21,7 @@ returns-in_err-slot c =
     let e = sym i.2 ∙ t.0.1.0 in
     let w = t.0.1.1 ∙ i.1 in
     refuses path _ _ d _ i.3 (chunk_within path _ _ _ d c.requires.0 i.0 e w) _ (chunk_block path _ _ _ d c.requires.0 i.0 e w)
-    (rw t.1 at c.one_block.ensures) c.in_err-slot.was _ c.from_residual.ensures.1
+    (rw (c.whole-b.ensures, t.1) at c.one_block.ensures) c.in_err-slot.was _ c.from_residual.ensures.1
 
 pub returns-in-Ends : goal.returns-in-Ends
 returns-in-Ends c =
@@ -33,7 +33,7 @@ returns-in-Ends c =
     let e = sym i.2 ∙ t.0.1.0 in
     let w = t.0.1.1 ∙ i.1 in
     ends_here path _ _ d _ i.3 (chunk_within path _ _ _ d c.requires.0 i.0 e w) _ (chunk_block path _ _ _ d c.requires.0 i.0 e w)
-    (rw t.1 at c.one_block.ensures) c.in_ok-slot.was c.in-Ends.is _ (rw t.1 at c.ended.ensures)
+    (rw (c.whole-b.ensures, t.1) at c.one_block.ensures) c.in_ok-slot.was c.in-Ends.is _ (rw (c.whole-b.ensures, t.1) at c.ended.ensures)
 
 pub loop-d-preserved : goal.loop-d-preserved
 loop-d-preserved c =
@@ -50,7 +50,7 @@ loop-d-preserved c =
       t.0.0 ∙ i.1,
       chunk_rest path _ _ _ d c.requires.0 i.0 e w,
       leads_on path _ _ d _ i.3 h _ (chunk_block path _ _ _ d c.requires.0 i.0 e w)
-          (rw t.1 at c.one_block.ensures) c.in_ok-slot.was c.in-Leads.is c.child-link.ensures,
+          (rw (c.whole-b.ensures, t.1) at c.one_block.ensures) c.in_ok-slot.was c.in-Leads.is (rw c.whole-b.ensures at c.child-link.ensures),
     )
 
 pub returns : goal.returns
@@ -58,4 +58,4 @@ returns c =
     let l = c.loop-d in
     let i = l.invariant in
     let t = c.in-None.ensures.steps in
-    none_more _ _ _ _ _ i.3 (chunk_none c.args.path.now _ _ _ c.requires.0 i.2 (omega (arith, t.0.1.0, i.1))) i.0
+    none_left _ _ _ _ _ i.3 (chunk_none c.args.path.now _ _ _ c.requires.0 i.2 (omega (arith, t.0.1.0, i.1))) i.0
