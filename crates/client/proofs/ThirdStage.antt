@@ -33,7 +33,7 @@ module _ (u : ℕ) (mem : List ℕ) (p : Bool) (list : List ℕ) where
       before = rw (sym en) (sym ea)
 
       -- Only a pending structure is sent again, which is whole.
-      is_pending : a ≡ true → p ≡ true
+      pub is_pending : a ≡ true → p ≡ true
       unfolding is_before
       is_pending t = (both_true p _ (sym ea ∙ t)).0
 

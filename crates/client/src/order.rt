@@ -117,7 +117,7 @@ pub(crate) fn order(
     if !listed {
         if is_before(user, own, pending, list) {
             let mut again = [0u8; SIZE];
-            layout::copy(held, &mut again);
+            layout::copy(&held[..SIZE], &mut again);
             return Ok(Verdict::Again(again));
         }
         return Err(Refusal::NotCurrent);

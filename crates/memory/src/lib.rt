@@ -94,7 +94,7 @@ fn lay(state: u8, x: &[u8], out: &mut [u8])
 {
     out[KIND] = 7;
     out[STATE] = state;
-    layout::copy(x, &mut out[STRUCTURE..FILE]);
+    layout::copy(&x[..SIZE], &mut out[STRUCTURE..FILE]);
 }
 
 // The file of what a client remembered before there were files: no bytes, or one structure, which is taken
