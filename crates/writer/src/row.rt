@@ -44,7 +44,7 @@ fn read_back(blocks: &[u8], numbers: &mut [u64], hashes: &mut [u8])
 }
 
 // Writes blocks of a kind over the row below, as many as fill the buffer.
-pub(crate) fn inner(kind: u8, below: &[u8], out: &mut [u8])
+fn fill_over(kind: u8, below: &[u8], out: &mut [u8])
     requires most { parts 642 out.old ≤ wide (parts 642 below.now) }
     requires whole { length out.old ≡ 642 * parts 642 out.old }
     ensures { out.new ≡ row kind (children below.now 0 (parts 642 below.now)) 0 (parts 642 out.old) }
@@ -65,4 +65,16 @@ pub(crate) fn inner(kind: u8, below: &[u8], out: &mut [u8])
             &mut out[at..at + SIZE],
         );
     }
+}
+
+// The same. Over a root there is no row, and then no array is cleared.
+pub(crate) fn inner(kind: u8, below: &[u8], out: &mut [u8])
+    requires most { parts 642 out.old ≤ wide (parts 642 below.now) }
+    requires whole { length out.old ≡ 642 * parts 642 out.old }
+    ensures { out.new ≡ row kind (children below.now 0 (parts 642 below.now)) 0 (parts 642 out.old) }
+{
+    if out.is_empty() {
+        return;
+    }
+    fill_over(kind, below, out);
 }

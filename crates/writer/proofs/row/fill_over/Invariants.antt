@@ -4,7 +4,7 @@ use Rattle.std.proofs.Common.{◌≡◌, ◌*◌, ◌++◌, length, drop}
 use Rattle.layout.specs.Bytes.{parts}
 use Rattle.itable.specs.Table.{row}
 use Rattle.writer.specs.Internal.Children.{children}
-use Rattle.writer.proofs.row.inner.Given as goal
+use Rattle.writer.proofs.row.fill_over.Given as goal
 
 abbrev pub invariant-loop-k : goal.invariant-loop-k
 invariant-loop-k l = (length l.numbers ≡ 16) × (length l.hashes ≡ 512) ×
