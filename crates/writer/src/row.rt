@@ -43,7 +43,9 @@ fn read_back(blocks: &[u8], numbers: &mut [u64], hashes: &mut [u8])
     }
 }
 
-// Writes blocks of a kind over the row below, as many as fill the buffer.
+// Writes blocks of a kind over the row below, as many as fill the buffer. It is a call of its own, which a table of one block
+// does not pay for.
+#[inline(never)]
 fn fill_over(kind: u8, below: &[u8], out: &mut [u8])
     requires most { parts 642 out.old ≤ wide (parts 642 below.now) }
     requires whole { length out.old ≡ 642 * parts 642 out.old }
